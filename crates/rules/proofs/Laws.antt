@@ -35,6 +35,13 @@ five a b c d f e =
     let q = four a b c d (p .0) in
     (q .0, q .1, q .2, q .3, p .1)
 
+pub six : (a b c d f g : Bool) → (a && b && c && d && f && g) ≡ true
+    → (a ≡ true) × (b ≡ true) × (c ≡ true) × (d ≡ true) × (f ≡ true) × (g ≡ true)
+six a b c d f g e =
+    let p = both (a && b && c && d && f) g e in
+    let q = five a b c d f (p .0) in
+    (q .0, q .1, q .2, q .3, q .4, p .1)
+
 pub both-yes : {a b : Bool} → a ≡ true → b ≡ true → (a && b) ≡ true
 both-yes p q = rw (p, q)
 

@@ -2,4 +2,7 @@
 pub mod Laws
 pub mod Limits
 pub mod Places
+pub mod Writes
+pub mod Shaped
+pub mod Fresh
 pub mod Table

@@ -7,13 +7,13 @@ use native.Mathlib.Nat.{mul-le-mul, suc-mul, le-refl, eq-or-lt-of-le, le-of-suc-
 use native.Mathlib.Omega.{arith}
 use mathlib.Core.Logic.{⊎-elim}
 use lib.ListN.{getD}
-use lib.Dec.{leb}
-use borrow.Author.Tests.{leb-true}
+use lib.Dec.{leb, ltb}
+use borrow.Author.Tests.{leb-true, ltb-true}
 use Rattle.rules.specs.declared.Settings.{Settings}
 use Rattle.rules.specs.Tests.{from-to}
-use Rattle.rules.specs.Settings.{legal, all-slots, room}
+use Rattle.rules.specs.Settings.{modulus, legal, all-slots, room}
 use Rattle.rules.specs.Image.{sections, sizes, size, start, words}
-use Rattle.rules.proofs.Laws.{both, five}
+use Rattle.rules.proofs.Laws.{both, six}
 
 pub record Limits (S : Settings) : Type 0 where
   pub threads-low : 1 ≤ S .threads
@@ -26,6 +26,7 @@ pub record Limits (S : Settings) : Type 0 where
   pub records-high : S .records ≤ 1024
   pub threshold-low : 1 ≤ S .threshold
   pub threshold-high : S .threshold ≤ 256
+  pub start-high : S .start < modulus
 
 pub from-to-says : (a b x : ℕ) → from-to a b x ≡ true → (a ≤ x) × (x ≤ b)
 from-to-says a b x e =
@@ -35,7 +36,7 @@ from-to-says a b x e =
 pub legal-says : (S : Settings) → legal S ≡ true → Limits S
 unfolding legal
 legal-says S e =
-    let q = five (from-to 1 16 (S .threads)) (from-to 1 8 (S .slots)) (from-to 1 256 (S .cells)) (from-to 1 1024 (S .records)) (from-to 1 256 (S .threshold)) e in
+    let q = six (from-to 1 16 (S .threads)) (from-to 1 8 (S .slots)) (from-to 1 256 (S .cells)) (from-to 1 1024 (S .records)) (from-to 1 256 (S .threshold)) (ltb (S .start) modulus) e in
     let t = from-to-says 1 16 (S .threads) (q .0) in
     let h = from-to-says 1 8 (S .slots) (q .1) in
     let c = from-to-says 1 256 (S .cells) (q .2) in
@@ -44,6 +45,7 @@ legal-says S e =
     record {
       threads-low = t .0; threads-high = t .1; slots-low = h .0; slots-high = h .1; cells-low = c .0; cells-high = c .1;
       records-low = r .0; records-high = r .1; threshold-low = f .0; threshold-high = f .1;
+      start-high = ltb-true _ _ (q .5);
     }
 
 -- column j of row i, of m rows that are n wide

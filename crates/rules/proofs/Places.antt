@@ -38,21 +38,25 @@ module _ (S : Settings) where
   unfolding view
   read I k i j h = rw (valid-is k i j h)
 
-  -- what the table says of each kind: its section is one of the sections and has its rows, and a row holds its words
-  abbrev Fitting : Kind → Type 0
-  Fitting k = (lay S k .section < sections) × (size S (lay S k .section) ≡ lay S k .rows * lay S k .width) × (lay S k .offset + lay S k .span ≤ lay S k .width)
+  -- what the table says of each kind: its section comes after the settings, is one of the sections and has the kind's
+  -- rows, and a row holds its words
+  pub record Fitting (k : Kind) : Type 0 where
+    pub later : 0 < lay S k .section
+    pub section : lay S k .section < sections
+    pub rows : size S (lay S k .section) ≡ lay S k .rows * lay S k .width
+    pub row : lay S k .offset + lay S k .span ≤ lay S k .width
 
-  fitting : (k : Kind) → Fitting k
+  pub fitting : (k : Kind) → Fitting k
   unfolding size sizes
   fitting k = elim k [ Cell ↦ omega arith | Status ↦ omega arith | Private ↦ omega arith | Published ↦ omega arith | Held ↦ omega arith | Count ↦ omega arith | Phase ↦ omega arith | U′ ↦ omega arith | V′ ↦ omega arith | W′ ↦ omega arith | Pending ↦ omega arith | Handler ↦ omega arith | Collected ↦ omega arith | Length ↦ omega arith | Entry ↦ omega arith | Scanned ↦ omega arith ]
 
   pub inside-section : (k : Kind) (i j : ℕ) → Valid S k i j → within S k i j < size S (lay S k .section)
   unfolding within
   inside-section k i j h =
-      rw (fitting k .1)
+      rw (fitting k .rows)
       (in-row {m = lay S k .rows} {n = lay S k .width} {i = i - lay S k .from} {j = lay S k .offset + j}
-      (omega (arith, h .low, h .high)) (omega (arith, h .place, fitting k .2)))
+      (omega (arith, h .low, h .high)) (omega (arith, h .place, fitting k .row)))
 
   pub inside : (k : Kind) (i j : ℕ) → Valid S k i j → address S k i j < words S
   unfolding address
-  inside k i j h = omega (arith, inside-section k i j h, start-apart S (lay S k .section) sections (fitting k .0))
+  inside k i j h = omega (arith, inside-section k i j h, start-apart S (lay S k .section) sections (fitting k .section))

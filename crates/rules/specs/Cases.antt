@@ -5,6 +5,7 @@ use Prim.Native.Nat.{ℕ}
 use lib.Dec.{eqb}
 use Rattle.rules.specs.declared.Settings.{Settings}
 use Rattle.rules.specs.Tests.{same}
+use Rattle.rules.specs.Settings.{settings-of}
 use Rattle.rules.specs.State.{Kind, Cell, Status, Private, Count, Pending, Collected, Length, Entry}
 use Rattle.rules.specs.Image.{view, Outcome}
 use Rattle.rules.specs.SetUp.{fresh}
@@ -47,10 +48,6 @@ pub record Case : Type 0 where
   pub finally : List Claim
   pub quiet : Bool
 
--- T, H, C, R, F, S
-abbrev set : (t h c r f s : ℕ) → Settings
-set t h c r f s = record { threads = t; slots = h; cells = c; records = r; threshold = f; start = s }
-
 unfoldable pub claims-hold : Settings → List ℕ → List Claim → Bool
 claims-hold S I [] = true
 claims-hold S I (c ∷ cs) = eqb (view S I (c .kind) (c .row) (c .place)) (c .word) && claims-hold S I cs
@@ -73,7 +70,7 @@ passes c = follows c (fresh (c .settings)) (c .lines)
 -- T=1, H=1, F=1: allocate, retire 1: five advances free it, and pending stays 0
 freed : Case
 freed = record {
-  settings = set 1 1 1 1 1 0;
+  settings = settings-of 1 1 1 1 1 0;
   lines = does 0 #allocate 0 0 0 1 ∷ does 0 #retire 1 0 0 1 ∷ advances 0 1 ∷ advances 0 1 ∷ advances 0 1 ∷ advances 0 1 ∷ advances 0 3 ∷ [];
   always = is Pending 0 0 0 ∷ [];
   finally = is Status 1 0 0 ∷ is Length 0 0 0 ∷ [];
@@ -83,7 +80,7 @@ freed = record {
 -- T=1, H=1, F=1: thread 0 confirms record 1, empties the cell, retires 1: kept
 kept : Case
 kept = record {
-  settings = set 1 1 1 1 1 0;
+  settings = settings-of 1 1 1 1 1 0;
   lines =
     does 0 #allocate 0 0 0 1 ∷ does 0 #swap 0 0 1 1 ∷ does 0 #load 0 0 0 1 ∷ does 0 #reserve 0 0 0 1 ∷ does 0 #check 0 0 0 1
     ∷ does 0 #swap 0 1 0 1 ∷ does 0 #retire 1 0 0 1 ∷ advances 0 1 ∷ advances 0 1 ∷ advances 0 1 ∷ advances 0 1 ∷ advances 0 2 ∷ [];
@@ -95,7 +92,7 @@ kept = record {
 -- count 4,294,967,295 collected, now 0: the wait passes
 wrapped : Case
 wrapped = record {
-  settings = set 2 1 1 1 1 4294967295;
+  settings = settings-of 2 1 1 1 1 4294967295;
   lines =
     does 0 #allocate 0 0 0 1 ∷ does 0 #retire 1 0 0 1 ∷ advances 0 1 ∷ advances 0 1 ∷ advances 0 1 ∷ advances 0 1
     ∷ does 1 #deliver 0 0 0 1 ∷ does 1 #handle 0 0 0 1 ∷ does 1 #handle 0 0 0 2 ∷ advances 0 1 ∷ advances 0 1 ∷ [];
@@ -107,7 +104,7 @@ wrapped = record {
 -- count 7 collected, still 7: value 0, image unchanged
 stuck : Case
 stuck = record {
-  settings = set 2 1 1 1 1 7;
+  settings = settings-of 2 1 1 1 1 7;
   lines =
     does 0 #allocate 0 0 0 1 ∷ does 0 #retire 1 0 0 1 ∷ advances 0 1 ∷ advances 0 1 ∷ advances 0 1 ∷ advances 0 1
     ∷ advances 0 1 ∷ advances 0 0 ∷ [];
@@ -119,7 +116,7 @@ stuck = record {
 -- R=1: the second allocate is refused 7; after a free it gives 1
 reused : Case
 reused = record {
-  settings = set 1 1 1 1 1 0;
+  settings = settings-of 1 1 1 1 1 0;
   lines =
     does 0 #allocate 0 0 0 1 ∷ refuses 0 #allocate 0 0 0 7 ∷ does 0 #retire 1 0 0 1 ∷ advances 0 1 ∷ advances 0 1
     ∷ advances 0 1 ∷ advances 0 1 ∷ advances 0 3 ∷ does 0 #allocate 0 0 0 1 ∷ [];
@@ -131,7 +128,7 @@ reused = record {
 -- F=2: retire of a record that a cell names: 9; with the cell emptied it is taken, and the same retire again: 8
 named-first : Case
 named-first = record {
-  settings = set 1 1 1 1 2 0;
+  settings = settings-of 1 1 1 1 2 0;
   lines =
     does 0 #allocate 0 0 0 1 ∷ does 0 #swap 0 0 1 1 ∷ refuses 0 #retire 1 0 0 9 ∷ does 0 #swap 0 1 0 1
     ∷ does 0 #retire 1 0 0 1 ∷ refuses 0 #retire 1 0 0 8 ∷ [];
@@ -143,7 +140,7 @@ named-first = record {
 -- its parenthesis: with F=1 the second retire meets 6, as the thread is in its reclaim
 named-then-busy : Case
 named-then-busy = record {
-  settings = set 1 1 1 1 1 0;
+  settings = settings-of 1 1 1 1 1 0;
   lines =
     does 0 #allocate 0 0 0 1 ∷ does 0 #swap 0 0 1 1 ∷ refuses 0 #retire 1 0 0 9 ∷ does 0 #swap 0 1 0 1
     ∷ does 0 #retire 1 0 0 1 ∷ refuses 0 #retire 1 0 0 6 ∷ [];
@@ -155,7 +152,7 @@ named-then-busy = record {
 -- load into slot H refused 4, into slot H−1 taken
 last-slot : Case
 last-slot = record {
-  settings = set 1 3 1 1 1 0;
+  settings = settings-of 1 3 1 1 1 0;
   lines = refuses 0 #load 3 0 0 4 ∷ does 0 #load 2 0 0 0 ∷ [];
   always = [];
   finally = [];
@@ -165,7 +162,7 @@ last-slot = record {
 -- a ping while the handler runs: pending 1 afterwards, deliver refused 5. Threads 0 and 2 reclaim, thread 1 handles
 pinged-twice : Case
 pinged-twice = record {
-  settings = set 3 1 1 2 1 0;
+  settings = settings-of 3 1 1 2 1 0;
   lines =
     does 0 #allocate 0 0 0 1 ∷ does 0 #allocate 0 0 0 2 ∷ does 0 #retire 1 0 0 1 ∷ does 2 #retire 2 0 0 1
     ∷ advances 0 1 ∷ advances 0 1 ∷ advances 0 1 ∷ advances 0 1 ∷ advances 0 1 ∷ does 1 #deliver 0 0 0 1
@@ -179,7 +176,7 @@ pinged-twice = record {
 -- a swap whose new record is retired and whose expected differs: 8
 dead-swap : Case
 dead-swap = record {
-  settings = set 1 1 1 1 2 0;
+  settings = settings-of 1 1 1 1 2 0;
   lines = does 0 #allocate 0 0 0 1 ∷ does 0 #retire 1 0 0 1 ∷ refuses 0 #swap 0 1 1 8 ∷ [];
   always = is Cell 0 0 0 ∷ [];
   finally = is Status 1 0 2 ∷ [];
@@ -189,7 +186,7 @@ dead-swap = record {
 -- a cell emptied between load and check: check 0, use refused 11; the slot stays as reserved
 emptied : Case
 emptied = record {
-  settings = set 2 1 1 1 1 0;
+  settings = settings-of 2 1 1 1 1 0;
   lines =
     does 0 #allocate 0 0 0 1 ∷ does 0 #swap 0 0 1 1 ∷ does 1 #load 0 0 0 1 ∷ does 0 #swap 0 1 0 1 ∷ does 1 #reserve 0 0 0 1
     ∷ does 1 #check 0 0 0 0 ∷ refuses 1 #use 0 0 0 11 ∷ [];

@@ -7,6 +7,7 @@ use lib.Dec.{eqb, leb, ltb}
 use Rattle.rules.specs.declared.Settings.{Settings}
 use Rattle.rules.specs.Tests.{from-to, all}
 use Rattle.rules.specs.Settings.{legal, all-slots, room, settings}
+use Rattle.rules.specs.Phases.{phases, idle, loaded, reserved, collecting, waiting, scanning, freeing}
 use Rattle.rules.specs.State.{State, cell, status, private, published, held, phase, u, v, w, pending, handler, list-length, entry, scanned}
 use Rattle.rules.specs.Image.{sections, size, start, words, view}
 
@@ -35,7 +36,7 @@ marks-right S m =
 
 -- position i of a list is in use: p, u and v are the thread's phase and words, n the list's length
 unfoldable pub in-use : (n p u v i : ℕ) → Bool
-in-use n p u v i = cond (eqb p 7) (ltb i v || leb u i && ltb i n) (ltb i n)
+in-use n p u v i = cond (eqb p freeing) (ltb i v || leb u i && ltb i n) (ltb i n)
 
 -- no entry in use is 0
 unfoldable pub entries-right : Settings → State → ℕ → Bool
@@ -45,17 +46,17 @@ entries-right S m t =
 -- the phase lines: what u, v and w are in phase p, and, from 3 on, a list of at least one
 unfoldable pub phase-line : Settings → (n p u v w : ℕ) → Bool
 phase-line S n p u v w =
-    eqb p 0 && eqb u 0 && eqb v 0 && eqb w 0
-    || from-to 1 2 p && ltb u (S .slots) && ltb v (S .cells) && leb w (S .records)
-    || from-to 3 5 p && leb 1 n && ltb u (S .threads) && eqb v 0 && eqb w 0
-    || eqb p 6 && leb 1 n && ltb u (all-slots S) && eqb v 0 && eqb w 0
-    || eqb p 7 && leb 1 n && ltb u n && leb v u && eqb w 0
+    eqb p idle && eqb u 0 && eqb v 0 && eqb w 0
+    || from-to loaded reserved p && ltb u (S .slots) && ltb v (S .cells) && leb w (S .records)
+    || from-to collecting waiting p && leb 1 n && ltb u (S .threads) && eqb v 0 && eqb w 0
+    || eqb p scanning && leb 1 n && ltb u (all-slots S) && eqb v 0 && eqb w 0
+    || eqb p freeing && leb 1 n && ltb u n && leb v u && eqb w 0
 
--- a thread: pending, handler, the list's length and entries, the phase line
+-- a thread: pending, handler, the list's length and entries, the phase and its line
 unfoldable pub thread-right : Settings → State → ℕ → Bool
 thread-right S m t =
     leb (pending m t) 1 && leb (handler m t) (S .slots + 1) && leb (list-length m t) (room S) && entries-right S m t
-    && phase-line S (list-length m t) (phase m t) (u m t) (v m t) (w m t)
+    && ltb (phase m t) phases && phase-line S (list-length m t) (phase m t) (u m t) (v m t) (w m t)
 
 -- all words of a state
 unfoldable pub right : Settings → State → Bool

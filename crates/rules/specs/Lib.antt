@@ -3,9 +3,9 @@ pub mod Tests
 pub mod Settings
 pub mod State
 pub mod Image
+pub mod Phases
 pub mod Damaged
 pub mod SetUp
-pub mod Phases
 pub mod Operations
 pub mod Advance
 pub mod Replies

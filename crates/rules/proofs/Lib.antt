@@ -5,4 +5,5 @@ pub mod Places
 pub mod Writes
 pub mod Shaped
 pub mod Fresh
+pub mod Sound
 pub mod Table

@@ -1,12 +1,13 @@
 -- 01, Steps: the step whole. Number 1 first, then 2 to 11, then the operation.
-use mathlib.Core.Bool.{cond}
+use mathlib.Core.Bool.{Bool, cond, not, _&&_}
 use mathlib.Core.List.{List, [], _∷_}
 use Prim.Native.Nat.{ℕ}
 use lib.ListN.{getD}
 use lib.Dec.{eqb}
 use Rattle.rules.specs.declared.Settings.{Settings}
-use Rattle.rules.specs.Settings.{settings}
-use Rattle.rules.specs.State.{State, Answer, refused}
+use Rattle.rules.specs.Settings.{slot, settings}
+use Rattle.rules.specs.Phases.{#check}
+use Rattle.rules.specs.State.{State, cell, private, u, v, w, Answer, refused}
 use Rattle.rules.specs.Image.{view, Outcome, after}
 use Rattle.rules.specs.Damaged.{damaged}
 use Rattle.rules.specs.Operations.{allocate, swap, load, reserve, check, use-slot, clear, retire, deliver, handle}
@@ -34,6 +35,13 @@ perform S m s =
 -- a step on the state of an undamaged image
 unfoldable pub answer : Settings → State → Step → Answer
 answer S m s = cond (eqb (refusal S m s) 0) (perform S m s) (refused (refusal S m s))
+
+-- the one accepted step that leaves a damaged image, on images made by hand alone: a check that marks a private slot of 0
+unfoldable pub marks-empty : Settings → State → Step → Bool
+marks-empty S m s =
+    let t : ℕ = s .thread in
+    eqb (refusal S m s) 0 && eqb (s .op) #check && eqb (cell m (v m t)) (w m t) && not (eqb (w m t) 0)
+    && eqb (private m (slot S t (u m t))) 0
 
 -- a step on any image
 unfoldable pub step : List ℕ → Step → Outcome

@@ -6,4 +6,5 @@ pub mod Writes
 pub mod Shaped
 pub mod Fresh
 pub mod Sound
+pub mod Checked
 pub mod Table

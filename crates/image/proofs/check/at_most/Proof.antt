@@ -1,0 +1,55 @@
+-- The loop's invariant: the words passed are at most b. The measure is how many are left.
+use mathlib.Core.Path.{_≡_, refl}
+use Prim.Native.Nat.{_+_, _-_, _≤_}
+use native.Mathlib.Omega.{arith}
+use lib.ListN.{getD}
+use lib.Dec.{leb}
+use Rattle.rules.specs.Tests.{all}
+use Rattle.image.proofs.Loops.{begins, goes-on, ends}
+use Rattle.image.proofs.check.at_most.Statement.{statement}
+use Rattle.image.proofs.check.at_most.Tie as tie
+
+abbrev Inv-loop : tie.InvT-loop
+Inv-loop words p n b ok₀ i₀ ok i = (i ≤ n) × (ok ≡ all i (λ i. leb (getD words (p + i) 0) b))
+
+abbrev μ-loop : tie.MeasureT-loop
+μ-loop words p n b ok₀ i₀ ok i = n - i
+
+loop-holds : tie.Need-loop-holds Inv-loop μ-loop
+loop-holds c = (omega arith, begins _)
+
+add-ok : tie.Need-add-ok Inv-loop μ-loop
+add-ok c = omega arith
+
+mul-ok : tie.Need-mul-ok Inv-loop μ-loop
+mul-ok c = omega arith
+
+shared-slice-read-ok : tie.Need-shared-slice-read-ok Inv-loop μ-loop
+shared-slice-read-ok c = omega arith
+
+add-i : tie.Need-add-i Inv-loop μ-loop
+add-i c = omega arith
+
+loop-less : tie.Need-loop-less Inv-loop μ-loop
+loop-less c = omega arith
+
+loop-again : tie.Need-loop-again Inv-loop μ-loop
+loop-again c = (omega arith, goes-on _ (c .before .before .loop .i) (c .before .before .loop .inv .1) refl)
+
+returns : tie.Need-returns Inv-loop μ-loop
+returns c = ends _ (c .before .loop .i) (c .before .before .args .n) (omega arith) (omega arith) (c .before .loop .inv .1)
+
+pub at-most-spec : {M : Type 1} → statement M
+at-most-spec =
+    tie.close
+    (tie.spec
+    Inv-loop
+    μ-loop
+    loop-holds
+    add-ok
+    mul-ok
+    shared-slice-read-ok
+    add-i
+    loop-less
+    loop-again
+    returns)

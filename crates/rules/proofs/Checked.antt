@@ -2,18 +2,21 @@
 use mathlib.Core.Path.{_≡_, refl, sym, ap, _∙_}
 use mathlib.Core.Bool.{Bool, true, false, cond, not, _&&_, _||_}
 use mathlib.Core.List.{List, [], _∷_}
-use Prim.Native.Nat.{ℕ, _+_}
+use Prim.Native.Nat.{ℕ, _+_, _≤_, _<_}
+use native.Mathlib.Omega.{arith}
 use lib.ListN.{getD}
 use lib.Dec.{eqb, leb}
 use borrow.Author.Tests.{ne-eqb}
 use Rattle.rules.specs.declared.Settings.{Settings}
 use Rattle.rules.specs.Settings.{slot, room}
-use Rattle.rules.specs.Phases.{operations, allows, #allocate, #swap, #load, #reserve, #check, #use, #clear, #retire, #advance, #deliver, #handle}
+use Rattle.rules.specs.Phases.{operations, loaded, reserved, collecting, allows, #allocate, #swap, #load, #reserve, #check, #use, #clear, #retire, #advance, #deliver, #handle}
 use Rattle.rules.specs.State.{State, status, held, phase, pending, handler, list-length, Answer, refused}
 use Rattle.rules.specs.Operations.{lowest-free, named, allocate, swap, load, reserve, check, use-slot, clear, retire, deliver, handle}
 use Rattle.rules.specs.Advance.{advance}
-use Rattle.rules.specs.Replies.{Step, step-of, operands-fit, Ground, _if_, first-given, phase-forbids, not-live, refusals, refusal}
+use Rattle.rules.specs.Replies.{Step, step-of, operands, fits, operands-fit, Ground, _if_, first-given, phase-forbids, not-live, refusals, refusal}
 use Rattle.rules.specs.Step.{perform, answer}
+use Rattle.rules.proofs.Laws.{tests}
+use Rattle.rules.proofs.Refused.{allows-says}
 
 -- an answer behind rows of the table
 abbrev pub checked : List Ground → Answer → Answer
@@ -31,6 +34,13 @@ module _ (gs : List Ground) (a : Answer) where
   pub passed : (n : ℕ) (b : Bool) → b ≡ false → checked ((n if b) ∷ gs) a ≡ checked gs a
   passed n b e = rw e
 
+-- the tests of rows 4 and 5
+abbrev pub operand-wrong : Settings → Step → Bool
+operand-wrong S s = not (operands-fit S s) || eqb (s .op) #retire && eqb (s .a) 0
+
+abbrev pub handling : State → Step → Bool
+handling m s = not (eqb (handler m (s .thread)) 0) && leb (s .op) #deliver
+
 module _ (S : Settings) (m : State) (t op a b c : ℕ) where
   abbrev s : Step
   s = step-of t op a b c
@@ -46,13 +56,6 @@ module _ (S : Settings) (m : State) (t op a b c : ℕ) where
       ∷ (11 if eqb op #use && eqb (held m (slot S t a)) 0)
       ∷ []
 
-  -- the tests of the rows before them
-  abbrev pub operand-wrong : Bool
-  operand-wrong = not (operands-fit S s) || eqb op #retire && eqb a 0
-
-  abbrev pub handling : Bool
-  handling = not (eqb (handler m t) 0) && leb op 9
-
   pub answer-2 : leb operations op ≡ true → answer S m s ≡ refused 2
   unfolding refusals
   answer-2 e = answer-checked S m s ∙ rw e
@@ -63,16 +66,16 @@ module _ (S : Settings) (m : State) (t op a b c : ℕ) where
     answer-3 e = answer-checked S m s ∙ rw (r2, e)
 
     module _ (r3 : leb (S .threads) t ≡ false) where
-      pub answer-4 : operand-wrong ≡ true → answer S m s ≡ refused 4
+      pub answer-4 : operand-wrong S s ≡ true → answer S m s ≡ refused 4
       unfolding refusals
       answer-4 e = answer-checked S m s ∙ rw (r2, r3, e)
 
-      module _ (r4 : operand-wrong ≡ false) where
-        pub answer-5 : handling ≡ true → answer S m s ≡ refused 5
+      module _ (r4 : operand-wrong S s ≡ false) where
+        pub answer-5 : handling m s ≡ true → answer S m s ≡ refused 5
         unfolding refusals
         answer-5 e = answer-checked S m s ∙ rw (r2, r3, r4, e)
 
-        module _ (r5 : handling ≡ false) where
+        module _ (r5 : handling m s ≡ false) where
           pub answer-6 : allows op (phase m t) ≡ false → answer S m s ≡ refused 6
           unfolding refusals phase-forbids
           answer-6 e = answer-checked S m s ∙ rw (r2, r3, r4, r5, e)
@@ -129,3 +132,32 @@ module _ (S : Settings) (m : State) (t a b c : ℕ) where
   pub late-handle : rest #handle ≡ checked ((6 if eqb (handler m t) 0) ∷ []) (handle S m t)
   unfolding late not-live perform
   late-handle = refl
+
+-- what the rows before those of the operations leave
+pub record Entered (S : Settings) (m : State) (s : Step) : Type 0 where
+  pub known : s .op < operations
+  pub thread : s .thread < S .threads
+  pub swaps : s .op ≡ #swap → (s .a < S .cells) × (s .c ≤ S .records)
+  pub loads : s .op ≡ #load → s .b < S .cells
+  pub uses : s .op ≡ #use → s .a < S .slots
+  pub clears : s .op ≡ #clear → s .a < S .slots
+  pub retires : s .op ≡ #retire → (1 ≤ s .a) × (s .a ≤ S .records)
+  pub reserves : s .op ≡ #reserve → phase m (s .thread) ≡ loaded
+  pub checks : s .op ≡ #check → phase m (s .thread) ≡ reserved
+  pub advances : s .op ≡ #advance → collecting ≤ phase m (s .thread)
+
+pub entered : (S : Settings) (m : State) (t op a b c : ℕ) → op < operations → t < S .threads → operand-wrong S (step-of t op a b c) ≡ false
+    → allows op (phase m t) ≡ true → Entered S m (step-of t op a b c)
+unfolding operands-fit fits operands
+entered S m t op a b c n2 n3 e4 e6 =
+    let n4 = simp tests at e4 in
+    let p = simp tests at (allows-says op (phase m t) e6) in
+    record {
+      known = n2; thread = n3;
+      swaps = λ o. let q = rw o at (n4 .0) in omega arith;
+      loads = λ o. let q = rw o at (n4 .0) in omega arith;
+      uses = λ o. let q = rw o at (n4 .0) in omega arith;
+      clears = λ o. let q = rw o at (n4 .0) in omega arith;
+      retires = λ o. let q = rw o at (n4 .0) in omega (arith, n4 .1 o);
+      reserves = p .0 .0 .1; checks = p .0 .1; advances = p .1;
+    }

@@ -1,14 +1,14 @@
 -- Laws of tests, and of tests over several words: what code and theorems cite in place of the definitions' text.
 use mathlib.Core.Path.{_≡_, refl, sym, ap, _∙_}
-use mathlib.Core.Bool.{Bool, true, false, cond, not, _&&_, _||_}
-use mathlib.Core.Logic.{_≢_, _⊎_, inl, inr, ⊎-elim}
+use mathlib.Core.Bool.{Bool, true, false, cond, not, _&&_, _||_, true≢false, false≢true}
+use mathlib.Core.Logic.{_≢_, _↔_, _⊎_, inl, inr, ⊎-elim}
 use Prim.Native.Nat.{ℕ, zero, suc, _+_, _*_, _≤_, _<_}
 use native.Mathlib.Nat.{eq-or-lt-of-le, le-of-suc-le-suc, not-suc-le-zero, add-assoc, suc-mul}
 use native.Mathlib.Numerals.{add-one}
 use native.Mathlib.Decide.{ℕ-discrete}
 use native.Mathlib.Omega.{arith}
-use lib.Dec.{eqb}
-use borrow.Author.Tests.{eq-eqb, ne-eqb}
+use lib.Dec.{eqb, leb}
+use borrow.Author.Tests.{leb-true, leb-false, eqb-true, eqb-false, le-leb, lt-leb, eq-eqb, ne-eqb}
 use Rattle.rules.specs.Tests.{all, some}
 
 -- what a conjunction says, test by test
@@ -128,3 +128,54 @@ pub some-same : {f g : ℕ → Bool} (n : ℕ) → ((i : ℕ) → i < n → f i 
 unfolding some
 some-same zero h = refl
 some-same (suc n) h = rw (some-same n (λ i l. h i (omega arith)), h n (omega arith))
+
+-- a case for each number from k on, below n
+infixr 5 _▸_
+pub data Cases (P : ℕ → Type 0) (n : ℕ) : ℕ → Type 0 where
+  end : Cases P n n
+  _▸_ : {k : ℕ} → P k → Cases P n (suc k) → Cases P n k
+
+pub case-of : {P : ℕ → Type 0} {n k : ℕ} → Cases P n k → (i : ℕ) → k ≤ i → i < n → P i
+case-of end i l h = absurd (omega arith)
+case-of {k = k} (c ▸ cs) i l h = elim (ℕ-discrete i k) [ yes e ↦ rw e c | no n ↦ case-of cs i (omega arith) h ]
+
+-- what a test says where it holds, and where it fails, both ways: `simp tests` reads a test as its facts
+pub and-says : (a b : Bool) → ((a && b) ≡ true) ↔ ((a ≡ true) × (b ≡ true))
+and-says a b = (both a b, λ q. both-yes (q .0) (q .1))
+
+pub and-fails : (a b : Bool) → ((a && b) ≡ false) ↔ (a ≡ true → b ≡ false)
+and-fails true b = (λ e _. e, λ h. h refl)
+and-fails false b = (λ _ e. absurd (false≢true e), λ _. refl)
+
+pub or-says : (a b : Bool) → ((a || b) ≡ true) ↔ (a ≡ false → b ≡ true)
+or-says true b = (λ _ e. absurd (true≢false e), λ _. refl)
+or-says false b = (λ e _. e, λ h. h refl)
+
+pub or-fails : (a b : Bool) → ((a || b) ≡ false) ↔ ((a ≡ false) × (b ≡ false))
+or-fails true b = (λ e. absurd (true≢false e), λ q. q .0)
+or-fails false b = (λ e. (refl, e), λ q. q .1)
+
+pub not-says : (a : Bool) → (not a ≡ true) ↔ (a ≡ false)
+not-says true = (sym, sym)
+not-says false = (λ _. refl, λ _. refl)
+
+pub not-fails : (a : Bool) → (not a ≡ false) ↔ (a ≡ true)
+not-fails true = (λ _. refl, λ _. refl)
+not-fails false = (sym, sym)
+
+pub leb-says : (a b : ℕ) → (leb a b ≡ true) ↔ (a ≤ b)
+leb-says a b = (leb-true a b, le-leb a b)
+
+pub leb-fails : (a b : ℕ) → (leb a b ≡ false) ↔ (b < a)
+leb-fails a b = (leb-false a b, lt-leb a b)
+
+pub eqb-says : (a b : ℕ) → (eqb a b ≡ true) ↔ (a ≡ b)
+eqb-says a b = (eqb-true a b, eq-eqb a b)
+
+pub eqb-fails : (a b : ℕ) → (eqb a b ≡ false) ↔ (a ≢ b)
+eqb-fails a b = (eqb-false a b, ne-eqb a b)
+
+pub all-says : (n : ℕ) (f : ℕ → Bool) → (all n f ≡ true) ↔ ((i : ℕ) → i < n → f i ≡ true)
+all-says n f = (λ e i h. all-at f n e h, all-yes f n)
+
+pub ruleset tests = (and-says, and-fails, or-says, or-fails, not-says, not-fails, leb-says, leb-fails, eqb-says, eqb-fails, all-says)

@@ -6,5 +6,8 @@ pub mod Writes
 pub mod Shaped
 pub mod Fresh
 pub mod Sound
+pub mod Refused
+pub mod Rows
+pub mod Kept
 pub mod Checked
 pub mod Table

@@ -54,10 +54,10 @@ pub record Same (k k′ : Kind) (i j i′ j′ : ℕ) : Type 0 where
   pub place : j ≡ j′
 
 module _ (k k′ : Kind) (i j i′ j′ : ℕ) where
-  abbrev met : Bool
+  abbrev pub met : Bool
   met = eqb (tag k) (tag k′) && (eqb i i′ && eqb j j′)
 
-  met-same : met ≡ true → Same k k′ i j i′ j′
+  pub met-same : met ≡ true → Same k k′ i j i′ j′
   met-same e =
       let p = both (eqb (tag k) (tag k′)) (eqb i i′ && eqb j j′) e in
       let q = both (eqb i i′) (eqb j j′) (p .1) in

@@ -91,7 +91,7 @@ module _ (S : Settings) (m : State) (s : Step) where
       (2 if leb operations (s .op))
       ∷ (3 if leb (S .threads) (s .thread))
       ∷ (4 if not (operands-fit S s) || is #retire && eqb (s .a) 0)
-      ∷ (5 if not (eqb (handler m (s .thread)) 0) && leb (s .op) 9)
+      ∷ (5 if not (eqb (handler m (s .thread)) 0) && leb (s .op) #deliver)
       ∷ (6 if phase-forbids)
       ∷ (7 if is #allocate && eqb (lowest-free m (S .records)) 0)
       ∷ (8 if not-live)

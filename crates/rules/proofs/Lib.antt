@@ -10,4 +10,5 @@ pub mod Refused
 pub mod Rows
 pub mod Kept
 pub mod Checked
+pub mod EqualReplies
 pub mod Table

@@ -1,6 +1,5 @@
 -- What is proved beside the functions, for several of them.
 pub mod Loops
-pub mod Sums
 pub mod Sections
 pub mod Columns
 pub mod Lists

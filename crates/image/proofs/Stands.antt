@@ -47,12 +47,13 @@ module _ (l : Layout) where
 -- what is read off a shaped image is a layout of it
 pub laid-out : {I ps : List ℕ} {S : Settings} {n : ℕ} → Shaped I → S ≡ settings I → n ≡ room S
     → ((k : ℕ) → k ≤ sections → getD ps k 0 ≡ start (settings I) k) → Fits (record { settings = S; room = n; starts = ps }) I × (S ≡ settings I)
-laid-out {I} {ps} {S} {n} s e r p =
-    ( record {
-        fine = record { limits = rw e (s .limits); room = r; starts = λ k h. p k h ∙ ap (λ z. start z k) (sym e) };
-        long = rw e (s .long);
-      }
-    , e )
+laid-out {I} {ps} {S} {n} s e r p = (
+  record {
+    fine = record { limits = rw e (s .limits); room = r; starts = λ k h. p k h ∙ ap (λ z. start z k) (sym e) };
+    long = rw e (s .long);
+  },
+  e,
+)
 
 pub limits-at : {I : List ℕ} {S : Settings} → Shaped I → S ≡ settings I → Limits S
 limits-at s e = rw e (s .limits)

@@ -203,7 +203,12 @@ fn thread_right(words: &[u32], l: Layout, t: usize) -> bool
     let w = thread_word(words, l, t, 3);
     let pending = thread_word(words, l, t, 4);
     let handler = thread_word(words, l, t, 5);
-    if (pending <= 1) & (handler <= s.slots + 1) & (n <= l.room) & (p < 8) & phase_line(s, n, p, u, v, w) {
+    if (pending <= 1)
+        & (handler <= s.slots + 1)
+        & (n <= l.room)
+        & (p < 8)
+        & phase_line(s, n, p, u, v, w)
+    {
         entries_right(words, l, t, n, p, u, v)
     } else {
         false
@@ -229,5 +234,8 @@ pub fn right(words: &[u32], l: Layout) -> bool
     requires { ⌜ Fits l (now words) ⌝ }
     ensures { λ r. ⌜ r ≡ image.right (l .settings) (whole.view (l .settings) (now (words .entry))) ⌝ }
 {
-    records_right(words, l) & statuses_right(words, l) & marks_right(words, l) & threads_right(words, l)
+    records_right(words, l)
+        & statuses_right(words, l)
+        & marks_right(words, l)
+        & threads_right(words, l)
 }

@@ -15,7 +15,14 @@ use super::layout::wide;
 use rules::Settings;
 
 // The settings that are given.
-pub fn given(threads: u32, slots: u32, cells: u32, records: u32, threshold: u32, start: u32) -> Settings
+pub fn given(
+    threads: u32,
+    slots: u32,
+    cells: u32,
+    records: u32,
+    threshold: u32,
+    start: u32,
+) -> Settings
     ensures { λ r. ⌜ r ≡ settings-of threads slots cells records threshold start ⌝ }
 {
     Settings {
@@ -55,7 +62,15 @@ fn fill(words: &mut [u32], p: usize, n: usize, x: u32)
 }
 
 // The first section, after its count.
-pub fn put_settings(words: &mut [u32], threads: u32, slots: u32, cells: u32, records: u32, threshold: u32, start: u32)
+pub fn put_settings(
+    words: &mut [u32],
+    threads: u32,
+    slots: u32,
+    cells: u32,
+    records: u32,
+    threshold: u32,
+    start: u32,
+)
     requires { ⌜ 7 ≤ length (now words) ⌝ }
     ensures { λ _. ⌜ (length (now (words .exit)) ≡ length (now (words .entry))) × (take 7 (now (words .exit)) ≡ rule.fresh-up-to (settings-of threads slots cells records threshold start) 1) ⌝ }
 {

@@ -60,7 +60,19 @@ pub fn sizes(s: Settings) -> [usize; 11]
     let t = s.threads;
     let all = t * s.slots;
     let l = room(s);
-    [6, s.cells, s.records, all, all, all, t, t * 6, t * t, t * (l + 1), t * all]
+    [
+        6,
+        s.cells,
+        s.records,
+        all,
+        all,
+        all,
+        t,
+        t * 6,
+        t * t,
+        t * (l + 1),
+        t * all,
+    ]
 }
 
 // How many words sections of these sizes have, each after its count.

@@ -1,7 +1,7 @@
 // The image: its layout, whether it is damaged, and its set-up.
-pub mod layout;
 pub mod check;
 pub mod fresh;
+pub mod layout;
 
 ghost use mathlib.Core.Path.{_≡_};
 ghost use Rattle.rules.specs.Settings.{settings-of};
@@ -32,7 +32,14 @@ pub fn damaged(words: &[u32]) -> bool
 }
 
 // How many words an image of these settings has, 0 where they are refused.
-pub fn words_needed(threads: u32, slots: u32, cells: u32, records: u32, threshold: u32, start: u32) -> usize
+pub fn words_needed(
+    threads: u32,
+    slots: u32,
+    cells: u32,
+    records: u32,
+    threshold: u32,
+    start: u32,
+) -> usize
     ensures { λ r. ⌜ r ≡ rule.words-needed (settings-of threads slots cells records threshold start) ⌝ }
 {
     let s = fresh::given(threads, slots, cells, records, threshold, start);
@@ -40,7 +47,15 @@ pub fn words_needed(threads: u32, slots: u32, cells: u32, records: u32, threshol
 }
 
 // Sets an image up. The number: 0, or 12 or 13, and then no word is changed.
-pub fn set_up(words: &mut [u32], threads: u32, slots: u32, cells: u32, records: u32, threshold: u32, start: u32) -> u32
+pub fn set_up(
+    words: &mut [u32],
+    threads: u32,
+    slots: u32,
+    cells: u32,
+    records: u32,
+    threshold: u32,
+    start: u32,
+) -> u32
     ensures { λ r. ⌜ outcome r 0 (now (words .exit)) ≡ rule.set-up (settings-of threads slots cells records threshold start) (now (words .entry)) ⌝ }
 {
     let s = fresh::given(threads, slots, cells, records, threshold, start);

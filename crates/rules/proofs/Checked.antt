@@ -153,11 +153,14 @@ entered S m t op a b c n2 n3 e4 e6 =
     let n4 = simp tests at e4 in
     let p = simp tests at (allows-says op (phase m t) e6) in
     record {
-      known = n2; thread = n3;
+      known = n2;
+      thread = n3;
       swaps = λ o. let q = rw o at (n4 .0) in omega arith;
       loads = λ o. let q = rw o at (n4 .0) in omega arith;
       uses = λ o. let q = rw o at (n4 .0) in omega arith;
       clears = λ o. let q = rw o at (n4 .0) in omega arith;
       retires = λ o. let q = rw o at (n4 .0) in omega (arith, n4 .1 o);
-      reserves = p .0 .0 .1; checks = p .0 .1; advances = p .1;
+      reserves = p .0 .0 .1;
+      checks = p .0 .1;
+      advances = p .1;
     }

@@ -46,9 +46,9 @@ module _ (S : Settings) where
       ⊎-elim
       (λ (e : k ≡ n). rw (e, ← up-to-length n) (getD-append-add (fresh-up-to S n) (size S n ∷ fresh-section S n) i 0))
       (λ b.
-        List·getD-append (fresh-up-to S n) (size S n ∷ fresh-section S n) 0 (start S k + i)
-        (omega (arith, up-to-length n, start-apart S k n b))
-        ∙ up-to-at n k i b l)
+      List·getD-append (fresh-up-to S n) (size S n ∷ fresh-section S n) 0 (start S k + i)
+      (omega (arith, up-to-length n, start-apart S k n b))
+      ∙ up-to-at n k i b l)
       (eq-or-lt-of-le (le-of-suc-le-suc h))
 
   pub fresh-length : length (fresh S) ≡ words S

@@ -30,20 +30,22 @@ module _ (S : Settings) (t : ℕ) where
   -- a word within its bound stays so
   small-kept : (zs : List Write) (m : State) → AllGood S t zs → (k : Kind) (i j : ℕ) → m k i j ≤ most S k (m k i j) → puts m zs k i j ≤ most S k (puts m zs k i j)
   small-kept [] m g k i j h = h
-  small-kept (z ∷ zs) m g k i j h = small-kept zs _ (g .1) k i j (elim (either (met (z .kind) k (z .row) (z .place) i j))
-    [ fails e ↦ rw e h
+  small-kept (z ∷ zs) m g k i j h = small-kept zs _ (g .1) k i j (elim (either (met (z .kind) k (z .row) (z .place) i j)) [
+    | fails e ↦ rw e h
     | holds e ↦
         let s : Same (z .kind) k (z .row) (z .place) i j = met-same (z .kind) k (z .row) (z .place) i j e in
-        rw e (elim (either (z .on)) [ holds o ↦ rw (o, ← s .kind) (g .0 .small) | fails o ↦ rw (o, s .kind, s .row, s .place) h ]) ])
+        rw e (elim (either (z .on)) [ holds o ↦ rw (o, ← s .kind) (g .0 .small) | fails o ↦ rw (o, s .kind, s .row, s .place) h ])
+  ])
 
   -- the phase and the list of another thread are as they were
   other-kept : (zs : List Write) (m : State) → AllGood S t zs → (k : Kind) → rowed k ≡ true → (i j : ℕ) → i ≢ t → puts m zs k i j ≡ m k i j
   other-kept [] m g k r i j n = refl
-  other-kept (z ∷ zs) m g k r i j n = other-kept zs _ (g .1) k r i j n ∙ elim (either (met (z .kind) k (z .row) (z .place) i j))
-    [ fails e ↦ rw e
+  other-kept (z ∷ zs) m g k r i j n = other-kept zs _ (g .1) k r i j n ∙ elim (either (met (z .kind) k (z .row) (z .place) i j)) [
+    | fails e ↦ rw e
     | holds e ↦
         let s : Same (z .kind) k (z .row) (z .place) i j = met-same (z .kind) k (z .row) (z .place) i j e in
-        absurd (n (sym (s .row) ∙ rw (s .kind, r) at (g .0 .own))) ]
+        absurd (n (sym (s .row) ∙ rw (s .kind, r) at (g .0 .own)))
+  ]
 
 -- rows: another line, and the ways on
 module _ {S : Settings} {n p u v w : ℕ} {es : ℕ → ℕ} (r : Row S n p u v w es) where
@@ -53,12 +55,12 @@ module _ {S : Settings} {n p u v w : ℕ} {es : ℕ → ℕ} (r : Row S n p u v 
 
   -- to the next item of N, or to phase p′ with its first item
   onward-row : {p′ : ℕ} (N : ℕ) → p ≢ freeing → Row S n p′ 0 v w es → (u + 1 ≢ N → Line S n p (u + 1) v w)
-    → Row S n (cond (eqb (u + 1) N) p′ p) (cond (eqb (u + 1) N) 0 (u + 1)) v w es
+      → Row S n (cond (eqb (u + 1) N) p′ p) (cond (eqb (u + 1) N) 0 (u + 1)) v w es
   onward-row N o last next = elim (either (eqb (u + 1) N))
-    [ holds e ↦ rw e last | fails e ↦ rw e (lined o o (next (eqb-false (u + 1) N e))) ]
+      [ holds e ↦ rw e last | fails e ↦ rw e (lined o o (next (eqb-false (u + 1) N e))) ]
 
   threads-row : {p′ : ℕ} → Limits S → collecting ≤ p → p ≤ waiting → p′ ≡ suc p
-    → Row S n (cond (eqb (u + 1) (S .threads)) p′ p) (cond (eqb (u + 1) (S .threads)) 0 (u + 1)) v w es
+      → Row S n (cond (eqb (u + 1) (S .threads)) p′ p) (cond (eqb (u + 1) (S .threads)) 0 (u + 1)) v w es
   threads-row l a b e =
       let i = r .line .thread a b in
       let o = r .line .list a in
@@ -66,7 +68,7 @@ module _ {S : Settings} {n p u v w : ℕ} {es : ℕ → ℕ} (r : Row S n p u v 
       onward-row (S .threads) (omega arith) (lined (omega arith) (omega arith) (omega arith)) (λ q. omega arith)
 
   scan-row : p ≡ scanning
-    → Row S n (cond (eqb (u + 1) (all-slots S)) freeing p) (cond (eqb (u + 1) (all-slots S)) 0 (u + 1)) v w es
+      → Row S n (cond (eqb (u + 1) (all-slots S)) freeing p) (cond (eqb (u + 1) (all-slots S)) 0 (u + 1)) v w es
   scan-row e =
       let i = r .line .word e in
       let o : 1 ≤ n = r .line .list (omega arith) in
@@ -76,14 +78,15 @@ module _ {S : Settings} {n p u v w : ℕ} {es : ℕ → ℕ} (r : Row S n p u v 
 
   -- after item u of the list, k of them kept, with entries es′
   freed-row : (k : ℕ) (es′ : ℕ → ℕ) → p ≡ freeing → k ≤ u + 1 → ((i : ℕ) → i < k → es′ i ≢ 0) → ((i : ℕ) → u < i → i < n → es′ i ≢ 0)
-    → Row S (cond (eqb (u + 1) n) k n) (cond (eqb (u + 1) n) idle p) (cond (eqb (u + 1) n) 0 (u + 1)) (cond (eqb (u + 1) n) 0 k) w es′
+      → Row S (cond (eqb (u + 1) n) k n) (cond (eqb (u + 1) n) idle p) (cond (eqb (u + 1) n) 0 (u + 1)) (cond (eqb (u + 1) n) 0 k) w es′
   freed-row k es′ e l a b =
       let i = r .line .item e in
-      elim (either (eqb (u + 1) n))
-      [ holds q ↦ rw q (record { full = λ _. a; front = λ z. absurd (omega arith); back = λ z. absurd (omega arith); line = omega arith })
-      | fails q ↦
-          let o = eqb-false (u + 1) n q in
-          rw q (record { full = λ z. absurd (z e); front = λ _. a; back = λ _ j x y. b j (omega arith) y; line = omega arith }) ]
+      elim (either (eqb (u + 1) n)) [
+        | holds q ↦ rw q (record { full = λ _. a; front = λ z. absurd (omega arith); back = λ z. absurd (omega arith); line = omega arith })
+        | fails q ↦
+            let o = eqb-false (u + 1) n q in
+            rw q (record { full = λ z. absurd (z e); front = λ _. a; back = λ _ j x y. b j (omega arith) y; line = omega arith })
+      ]
 
 -- entry j after x was put at i
 nonzero : (m : State) (t i x j : ℕ) → (i ≡ j → x ≢ 0) → (i ≢ j → entry m t j ≢ 0) → entry (put m Entry t i x) t j ≢ 0
@@ -106,31 +109,44 @@ module _ (S : Settings) (m : State) (t : ℕ) (l : Limits S) (h : Sound S m) (b 
   effect (swaps _ _) = (r, h .beside)
   effect (loads {b = c} e x y) = (rw (eq-eqb t t refl) (lined r (omega arith) (omega arith) (omega (arith, h .cells c y))), h .beside)
   effect (reserves e x y z) = (rw (eq-eqb t t refl) (lined r (omega arith) (omega arith) (omega arith)), unmarked (slot S t (u m t)) (w m t))
-  effect (checks e _ y) = (rw (eq-eqb t t refl) (lined r (omega arith) (omega arith) (omega arith)), λ x o. elim (sep (slot S t (u m t)) x)
-      [ diff _ q ↦ rw q (h .beside x o)
+  effect (checks e _ y) = (
+    rw (eq-eqb t t refl) (lined r (omega arith) (omega arith) (omega arith)),
+    λ x o. elim (sep (slot S t (u m t)) x) [
+      | diff _ q ↦ rw q (h .beside x o)
       | same i q ↦ rw q (elim (either (marking m t))
-          [ holds z ↦ rw (z, ← i) (λ _. eqb-false _ 0 (and-fails _ _ .0 (sym y) z)) | fails z ↦ rw (z, i) (h .beside x o) ]) ])
+          [ holds z ↦ rw (z, ← i) (λ _. eqb-false _ 0 (and-fails _ _ .0 (sym y) z)) | fails z ↦ rw (z, i) (h .beside x o) ])
+    ],
+  )
   effect (clears {a} _) = (r, unmarked (slot S t a) 0)
   effect (retires {a} e x _ _) =
       let longer : Row S (list-length m t + 1) (phase m t) (u m t) (v m t) (w m t) (entry (put m Entry t (list-length m t) a) t) = record {
         full = λ _ i o. nonzero m t _ a i (λ _. omega arith) (λ n. r .full (omega arith) i (omega arith));
-        front = λ o. absurd (omega arith); back = λ o. absurd (omega arith); line = omega (arith, r .line .rest e);
-      } in
-      (rw (eq-eqb t t refl) (elim (either (leb (S .threshold) (list-length m t + 1)))
-      [ holds q ↦ rw q (lined longer {u′ = 0} (omega arith) (omega arith) (omega (arith, l .threads-low, r .line .rest e))) | fails q ↦ rw q longer ]),
-      h .beside)
+        front = λ o. absurd (omega arith);
+        back = λ o. absurd (omega arith);
+        line = omega (arith, r .line .rest e);
+      } in (
+        rw (eq-eqb t t refl) (elim (either (leb (S .threshold) (list-length m t + 1)))
+            [ holds q ↦ rw q (lined longer {u′ = 0} (omega arith) (omega arith) (omega (arith, l .threads-low, r .line .rest e))) | fails q ↦ rw q longer ]),
+        h .beside,
+      )
   effect (collects e _) = (rw (eq-eqb t t refl) (threads-row r l (omega arith) (omega arith) (omega arith)), h .beside)
   effect (pings e _) = (rw (eq-eqb t t refl) (threads-row r l (omega arith) (omega arith) (omega arith)), h .beside)
   effect (waits e _ _) = (rw (eq-eqb t t refl) (threads-row r l (omega arith) (omega arith) (omega arith)), h .beside)
   effect (scans e _) = (rw (eq-eqb t t refl) (scan-row r e), h .beside)
-  effect (keeps e x y _) = (rw (eq-eqb t t refl) (freed-row r (v m t + 1) _ e (omega arith)
-      (λ i o. nonzero (put m Entry t (u m t) 0) t (v m t) _ i (λ _. r .back e (u m t) (omega arith) x)
+  effect (keeps e x y _) = (
+    rw (eq-eqb t t refl) (freed-row r (v m t + 1) _ e (omega arith)
+        (λ i o. nonzero (put m Entry t (u m t) 0) t (v m t) _ i (λ _. r .back e (u m t) (omega arith) x)
         (λ n. nonzero m t (u m t) 0 i (λ q. absurd (omega arith)) (λ _. r .front e i (omega arith))))
-      (λ i o o′. nonzero (put m Entry t (u m t) 0) t (v m t) _ i (λ q. absurd (omega arith))
-        (λ _. nonzero m t (u m t) 0 i (λ q. absurd (omega arith)) (λ _. r .back e i (omega arith) o′)))), h .beside)
-  effect (frees e x y _) = (rw (eq-eqb t t refl) (freed-row r (v m t) _ e (omega arith)
-      (λ i o. nonzero m t (u m t) 0 i (λ q. absurd (omega arith)) (λ _. r .front e i o))
-      (λ i o o′. nonzero m t (u m t) 0 i (λ q. absurd (omega arith)) (λ _. r .back e i (omega arith) o′))), h .beside)
+        (λ i o o′. nonzero (put m Entry t (u m t) 0) t (v m t) _ i (λ q. absurd (omega arith))
+        (λ _. nonzero m t (u m t) 0 i (λ q. absurd (omega arith)) (λ _. r .back e i (omega arith) o′)))),
+    h .beside,
+  )
+  effect (frees e x y _) = (
+    rw (eq-eqb t t refl) (freed-row r (v m t) _ e (omega arith)
+        (λ i o. nonzero m t (u m t) 0 i (λ q. absurd (omega arith)) (λ _. r .front e i o))
+        (λ i o o′. nonzero m t (u m t) 0 i (λ q. absurd (omega arith)) (λ _. r .back e i (omega arith) o′))),
+    h .beside,
+  )
   effect delivers = (r, h .beside)
   effect (copies _ _) = (r, h .beside)
   effect counts = (r, h .beside)
@@ -146,22 +162,27 @@ module _ (S : Settings) (m : State) (t : ℕ) (l : Limits S) (h : Sound S m) (b 
     marks = λ x o. small Held x 0 (h .marks x o);
     beside = effect d .1;
     threads = λ a o.
-      let z : Thread S m a = h .threads a o in
-      let r : RowAt S (puts m zs) a = row a o in
-      record {
-        pending = small Pending a 0 (z .pending); handler = small Handler a 0 (z .handler); length = small Length a 0 (z .length);
-        used = λ i _. row-used r i; line = r .line;
-      };
+        let z : Thread S m a = h .threads a o in
+        let r : RowAt S (puts m zs) a = row a o in
+        record {
+          pending = small Pending a 0 (z .pending);
+          handler = small Handler a 0 (z .handler);
+          length = small Length a 0 (z .length);
+          used = λ i _. row-used r i;
+          line = r .line;
+        };
   }
     where
       small : (k : Kind) (i j : ℕ) → m k i j ≤ most S k (m k i j) → puts m zs k i j ≤ most S k (puts m zs k i j)
       small = small-kept S t zs m (good S m t h b d)
+
       row : (a : ℕ) → a < S .threads → RowAt S (puts m zs) a
-      row a o = elim (ℕ-discrete a t)
-        [ yes e ↦ rw e (effect d .0)
+      row a o = elim (ℕ-discrete a t) [
+        | yes e ↦ rw e (effect d .0)
         | no n ↦
             let same : (k : Kind) → rowed k ≡ true → (j : ℕ) → puts m zs k a j ≡ m k a j = λ k e j. other-kept S t zs m (good S m t h b d) k e a j n in
-            rw (same Length refl 0, same Phase refl 0, same U′ refl 0, same V′ refl 0, same W′ refl 0, fun-ext (same Entry refl)) (thread-row (h .threads a o)) ]
+            rw (same Length refl 0, same Phase refl 0, same U′ refl 0, same V′ refl 0, same W′ refl 0, fun-ext (same Entry refl)) (thread-row (h .threads a o))
+      ]
 
 module _ (S : Settings) (m : State) (s : Step) (l : Limits S) (h : Sound S m) (e : refusal S m s ≡ 0) where
   -- the exception: the mark that it sets stands beside a private slot of 0
@@ -178,10 +199,11 @@ module _ (S : Settings) (m : State) (s : Step) (l : Limits S) (h : Sound S m) (e
 
   pub right-kept : right S (puts m (perform S m s .writes)) ≡ not (marks-empty S m s)
   right-kept =
-    let o : s .thread < S .threads = accepted-says S m s e .thread in
-    elim (either (marks-empty S m s))
-    [ fails y ↦ rw y (says-right S (puts m (perform S m s .writes)) (kept S m (s .thread) l h o (thread-row (h .threads (s .thread) o)) (rw y at (does S m s h e))))
-    | holds y ↦ rw y (elim (either (right S (puts m (perform S m s .writes)))) [ fails z ↦ z | holds z ↦ absurd (marked y (right-says S _ z)) ]) ]
+      let o : s .thread < S .threads = accepted-says S m s e .thread in
+      elim (either (marks-empty S m s)) [
+        | fails y ↦ rw y (says-right S (puts m (perform S m s .writes)) (kept S m (s .thread) l h o (thread-row (h .threads (s .thread) o)) (rw y at (does S m s h e))))
+        | holds y ↦ rw y (elim (either (right S (puts m (perform S m s .writes)))) [ fails z ↦ z | holds z ↦ absurd (marked y (right-says S _ z)) ])
+      ]
 
 -- writes to an undamaged image leave its settings, its length and its counts: the words decide
 pub undamaged-written : (I : List ℕ) (zs : List Write) → undamaged I ≡ true → AllValid (settings I) zs
@@ -189,21 +211,28 @@ pub undamaged-written : (I : List ℕ) (zs : List Write) → undamaged I ≡ tru
 unfolding undamaged
 undamaged-written I zs e g =
     let ((a, b), _) = simp and-says at e in
-    rw (kept-settings (settings I) zs I g, a, laid-kept (settings I) zs I g b,
-    stored-all (settings I) zs I g (omega (arith, undamaged-says I e .0 .long)))
+    rw (
+      kept-settings (settings I) zs I g,
+      a,
+      laid-kept (settings I) zs I g b,
+      stored-all (settings I) zs I g (omega (arith, undamaged-says I e .0 .long)),
+    )
 
 pub step-keeps : (I : List ℕ) (s : Step) → undamaged I ≡ true → damaged (step I s .image) ≡ marks-empty (settings I) (view (settings I) I) s
 unfolding step marks-empty
-step-keeps I s e = rw e (elim (either (eqb (refusal S m s) 0))
-  [ fails q ↦ rw (refused-is S m s (eqb-false _ 0 q), e, q)
+step-keeps I s e = rw e (elim (either (eqb (refusal S m s) 0)) [
+  | fails q ↦ rw (refused-is S m s (eqb-false _ 0 q), e, q)
   | holds q ↦
       let r : refusal S m s ≡ 0 = eqb-true _ 0 q in
       rw (accepted-is S m s r, undamaged-written I (perform S m s .writes) e (writes-valid S m s h r), right-kept S m s (undamaged-says I e .0 .limits) h r)
-      (Bool·not-not (marks-empty S m s)) ])
+      (Bool·not-not (marks-empty S m s))
+])
   where
     S : Settings
     S = settings I
+
     m : State
     m = view (settings I) I
+
     h : Sound (settings I) (view (settings I) I)
     h = undamaged-says I e .1

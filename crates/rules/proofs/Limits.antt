@@ -43,8 +43,16 @@ legal-says S e =
     let r = from-to-says 1 1024 (S .records) (q .3) in
     let f = from-to-says 1 256 (S .threshold) (q .4) in
     record {
-      threads-low = t .0; threads-high = t .1; slots-low = h .0; slots-high = h .1; cells-low = c .0; cells-high = c .1;
-      records-low = r .0; records-high = r .1; threshold-low = f .0; threshold-high = f .1;
+      threads-low = t .0;
+      threads-high = t .1;
+      slots-low = h .0;
+      slots-high = h .1;
+      cells-low = c .0;
+      cells-high = c .1;
+      records-low = r .0;
+      records-high = r .1;
+      threshold-low = f .0;
+      threshold-high = f .1;
       start-high = ltb-true _ _ (q .5);
     }
 

@@ -61,7 +61,7 @@ pub allows-says : (op p : ℕ) → allows op p ≡ true → phase-said op p ≡ 
 unfolding allows allowed
 allows-says op p e =
     let row : every (λ i b. not b || phase-said op i) (getD allowed op []) ≡ true
-        = every-at (λ o bs. every (λ i b. not b || phase-said o i) bs) allowed [] (λ _. refl) refl op in
+    = every-at (λ o bs. every (λ i b. not b || phase-said o i) bs) allowed [] (λ _. refl) refl op in
     rw e at (every-at (λ i b. not b || phase-said op i) (getD allowed op []) false (λ _. refl) row p)
 
 -- what is known of step s, accepted in state m
@@ -110,15 +110,27 @@ module _ (S : Settings) (m : State) (s : Step) where
       let (n2, (n3, (n4, (n5, (n6, (n7, (n8, (n9, (n10, (n11, _)))))))))) = simp tests at (passed (refusals S m s) refl e) in
       let p = simp tests at (allows-says (s .op) (phase m (s .thread)) (n6 .0 .0)) in
       record {
-        known = n2; thread = n3;
+        known = n2;
+        thread = n3;
         swaps = λ o. let q = rw o at (n4 .0) in omega arith;
         loads = λ o. let q = rw o at (n4 .0) in omega arith;
         uses = λ o. let q = rw o at (n4 .0) in omega arith;
         clears = λ o. let q = rw o at (n4 .0) in omega arith;
         retires = λ o. let q = rw o at (n4 .0) in omega (arith, n4 .1 o);
         unhandled = λ l. elim (ℕ-discrete (handler m (s .thread)) 0) [ yes h ↦ h | no h ↦ absurd (omega (arith, n5 h)) ];
-        allowed = n6 .0 .0; rests = λ r. p .0 .0 .0 (simp tests at r); reserves = p .0 .0 .1; checks = p .0 .1; advances = p .1;
-        pinged = n6 .0 .1; handling = n6 .1; free = n7; live-new = n8 .0; live = n8 .1; unnamed = n9; shorter = n10; marked = n11;
+        allowed = n6 .0 .0;
+        rests = λ r. p .0 .0 .0 (simp tests at r);
+        reserves = p .0 .0 .1;
+        checks = p .0 .1;
+        advances = p .1;
+        pinged = n6 .0 .1;
+        handling = n6 .1;
+        free = n7;
+        live-new = n8 .0;
+        live = n8 .1;
+        unnamed = n9;
+        shorter = n10;
+        marked = n11;
       }
 
 -- an answer that isn't done has value 0 and writes nothing

@@ -42,25 +42,28 @@ thread-row {S} {m} {t} z = record {
   full = λ n i h. z .used i (omega arith) (rw (ne-eqb (phase m t) freeing n) (lt-ltb i (list-length m t) h));
   front = λ e i h. z .used i (omega (arith, z .line .item e)) (rw (eq-eqb (phase m t) freeing e, lt-ltb i (v m t) h));
   back = λ e i l h. z .used i (omega arith)
-    (rw (eq-eqb (phase m t) freeing e, le-leb (u m t) i l, lt-ltb i (list-length m t) h) (or-true (ltb i (v m t))));
+      (rw (eq-eqb (phase m t) freeing e, le-leb (u m t) i l, lt-ltb i (list-length m t) h) (or-true (ltb i (v m t))));
   line = z .line;
 }
 
 pub row-used : {S : Settings} {n p u v w : ℕ} {es : ℕ → ℕ} → Row S n p u v w es → (i : ℕ) → in-use n p u v i ≡ true → es i ≢ 0
 unfolding in-use
-row-used {p = p} {v = v} r i e = elim (sep p freeing)
-  [ diff n q ↦ r .full n i (ltb-true _ _ (rw q at e))
-  | same o q ↦ elim (either (ltb i v))
-      [ holds h ↦ r .front o i (ltb-true _ _ h)
-      | fails h ↦ let z = simp tests at (rw h at (rw q at e)) in r .back o i (z .0) (z .1) ] ]
+row-used {p = p} {v = v} r i e = elim (sep p freeing) [
+  | diff n q ↦ r .full n i (ltb-true _ _ (rw q at e))
+  | same o q ↦ elim (either (ltb i v)) [
+    | holds h ↦ r .front o i (ltb-true _ _ h)
+    | fails h ↦ let z = simp tests at (rw h at (rw q at e)) in r .back o i (z .0) (z .1)
+  ]
+]
 
 -- the lowest free record is one of those looked at
 lowest-most : (m : State) (n : ℕ) → lowest-free m n ≤ n
 unfolding lowest-free
 lowest-most m zero = omega arith
-lowest-most m (suc n) = elim (either (eqb (lowest-free m n) 0))
-  [ fails e ↦ rw e (omega (arith, lowest-most m n))
-  | holds e ↦ rw e (elim (either (eqb (status m (suc n)) 0)) [ holds h ↦ rw h (omega arith) | fails h ↦ rw h (omega arith) ]) ]
+lowest-most m (suc n) = elim (either (eqb (lowest-free m n) 0)) [
+  | fails e ↦ rw e (omega (arith, lowest-most m n))
+  | holds e ↦ rw e (elim (either (eqb (status m (suc n)) 0)) [ holds h ↦ rw h (omega arith) | fails h ↦ rw h (omega arith) ])
+]
 
 -- the wait passes
 abbrev pub passing : State → ℕ → Bool
@@ -89,12 +92,12 @@ pub data Does (S : Settings) (m : State) (t : ℕ) (empty : Bool) : List Write �
   waits : phase m t ≡ waiting → u m t < S .threads → passing m t ≡ true → Does S m t empty (onward t (u m t) (S .threads) scanning)
   scans : phase m t ≡ scanning → u m t < all-slots S → Does S m t empty (scan S m t .writes)
   keeps : phase m t ≡ freeing → u m t < list-length m t → v m t ≤ u m t → noted S m t (entry m t (u m t)) ≡ true
-    → Does S m t empty (entry≔ t (u m t) 0 ∷ entry≔ t (v m t) (entry m t (u m t)) ∷ freed-on t (u m t) (list-length m t) (v m t + 1))
+      → Does S m t empty (entry≔ t (u m t) 0 ∷ entry≔ t (v m t) (entry m t (u m t)) ∷ freed-on t (u m t) (list-length m t) (v m t + 1))
   frees : phase m t ≡ freeing → u m t < list-length m t → v m t ≤ u m t → noted S m t (entry m t (u m t)) ≡ false
-    → Does S m t empty (entry≔ t (u m t) 0 ∷ status≔ (entry m t (u m t)) 0 ∷ freed-on t (u m t) (list-length m t) (v m t))
+      → Does S m t empty (entry≔ t (u m t) 0 ∷ status≔ (entry m t (u m t)) 0 ∷ freed-on t (u m t) (list-length m t) (v m t))
   delivers : Does S m t empty (deliver t .writes)
   copies : 1 ≤ handler m t → handler m t ≤ S .slots
-    → Does S m t empty (published≔ (slot S t (handler m t - 1)) (private m (slot S t (handler m t - 1))) ∷ handler≔ t (handler m t + 1) ∷ [])
+      → Does S m t empty (published≔ (slot S t (handler m t - 1)) (private m (slot S t (handler m t - 1))) ∷ handler≔ t (handler m t + 1) ∷ [])
   counts : {x : ℕ} → Does S m t empty (count≔ t x ∷ handler≔ t 0 ∷ [])
 
 module _ (S : Settings) (m : State) (t : ℕ) (empty : Bool) (z : Thread S m t) where
@@ -112,8 +115,8 @@ module _ (S : Settings) (m : State) (t : ℕ) (empty : Bool) (z : Thread S m t) 
       ▸ (λ e. rw e (of-two (passing m t) _ _ (waits e (z .line .thread (omega arith) (omega arith) .0)) (λ _. nothing)))
       ▸ (λ e. rw e (scans e (z .line .word e .0)))
       ▸ (λ e.
-          let i = z .line .item e in
-          rw e (of-two (noted S m t (entry m t (u m t))) _ _ (keeps e (i .0) (i .1)) (frees e (i .0) (i .1))))
+      let i = z .line .item e in
+      rw e (of-two (noted S m t (entry m t (u m t))) _ _ (keeps e (i .0) (i .1)) (frees e (i .0) (i .1))))
       ▸ end) (phase m t) l (z .line .known) refl
 
   -- operation op, and the operations in their order
@@ -127,12 +130,12 @@ module _ (S : Settings) (m : State) (t : ℕ) (empty : Bool) (z : Thread S m t) 
       ▸ (λ k _. swaps (k .swaps refl .0) (k .swaps refl .2))
       ▸ (λ k _. loads (k .rests refl) (k .loads refl .0) (k .loads refl .1))
       ▸ (λ k _.
-          let e : phase m t ≡ loaded = k .reserves refl in
-          let i = z .line .slot (omega arith) (omega arith) in
-          reserves e (i .0) (i .1) (i .2))
+      let e : phase m t ≡ loaded = k .reserves refl in
+      let i = z .line .slot (omega arith) (omega arith) in
+      reserves e (i .0) (i .1) (i .2))
       ▸ (λ k y.
-          let e : phase m t ≡ reserved = k .checks refl in
-          checks e (z .line .slot (omega arith) (omega arith) .0) (y refl))
+      let e : phase m t ≡ reserved = k .checks refl in
+      checks e (z .line .slot (omega arith) (omega arith) .0) (y refl))
       ▸ (λ _ _. nothing)
       ▸ (λ k _. clears (k .clears refl))
       ▸ (λ k _. retires (k .rests refl) (k .retires refl .0) (k .retires refl .1) (omega (arith, k .shorter refl)))

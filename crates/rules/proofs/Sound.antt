@@ -42,8 +42,6 @@ pub record Sound (S : Settings) (m : State) : Type 0 where
   pub beside : (x : ℕ) → x < all-slots S → held m x ≢ 0 → private m x ≢ 0
   pub threads : (t : ℕ) → t < S .threads → Thread S m t
 
-
-
 -- of a phase line only one line is left where the phase is a numeral
 ruleset one-line = (or-false, and-says, leb-says, eqb-says)
 
@@ -75,27 +73,41 @@ module _ (S : Settings) (m : State) where
       let q = simp tests at e in
       let r = q .0 .0 .0 in
       record {
-        cells = r .0 .0 .0 .0; privates = r .0 .0 .0 .1; publisheds = r .0 .0 .1;
-        entries = λ t i h l. r .0 .1 t h i l; scanneds = λ t x h l. r .1 t h x l;
+        cells = r .0 .0 .0 .0;
+        privates = r .0 .0 .0 .1;
+        publisheds = r .0 .0 .1;
+        entries = λ t i h l. r .0 .1 t h i l;
+        scanneds = λ t x h l. r .1 t h x l;
         statuses = λ p l h. let o : p ≡ p - 1 + 1 = omega arith in rw o (q .0 .0 .1 (p - 1) (omega arith));
-        marks = q .0 .1 .0; beside = q .0 .1 .1;
+        marks = q .0 .1 .0;
+        beside = q .0 .1 .1;
         threads = λ t h.
-          let z = q .1 t h in
-          record {
-            pending = z .0 .0 .0 .0 .0; handler = z .0 .0 .0 .0 .1; length = z .0 .0 .0 .1; used = z .0 .0 .1;
-            line = line-says S (list-length m t) (u m t) (v m t) (w m t) (phase m t) (z .0 .1) (z .1);
-          };
+            let z = q .1 t h in
+            record {
+              pending = z .0 .0 .0 .0 .0;
+              handler = z .0 .0 .0 .0 .1;
+              length = z .0 .0 .0 .1;
+              used = z .0 .0 .1;
+              line = line-says S (list-length m t) (u m t) (v m t) (w m t) (phase m t) (z .0 .1) (z .1);
+            };
       }
 
   pub says-right : Sound S m → right S m ≡ true
   unfolding right records-right statuses-right marks-right thread-right entries-right
-  says-right s = simp tests
-      (((((((s .cells, s .privates), s .publisheds), λ t h i l. s .entries t i h l), λ t h x l. s .scanneds t x h l),
-      λ i h. s .statuses (i + 1) (omega arith) (omega arith)), (s .marks, s .beside)),
-      λ t h.
-        let z : Thread S m t = s .threads t h in
-        (((((z .pending, z .handler), z .length), z .used), z .line .known),
-        says-line S (list-length m t) (u m t) (v m t) (w m t) (phase m t) (z .line)))
+  says-right s = simp tests (
+    (
+      (
+        ((((s .cells, s .privates), s .publisheds), λ t h i l. s .entries t i h l), λ t h x l. s .scanneds t x h l),
+        λ i h. s .statuses (i + 1) (omega arith) (omega arith),
+      ),
+      (s .marks, s .beside),
+    ),
+    λ t h.
+        let z : Thread S m t = s .threads t h in (
+          ((((z .pending, z .handler), z .length), z .used), z .line .known),
+          says-line S (list-length m t) (u m t) (v m t) (w m t) (phase m t) (z .line),
+        ),
+  )
 
 pub undamaged-says : (I : List ℕ) → undamaged I ≡ true → Shaped I × Sound (settings I) (view (settings I) I)
 unfolding undamaged

@@ -84,9 +84,10 @@ put-own : (m : State) (k : Kind) (i j : ℕ) → put m k i j (m k i j) ≡ m
 put-own m k i j = fun-ext (λ k′. fun-ext (λ i′. fun-ext (λ j′. own k′ i′ j′)))
   where
     own : (k′ : Kind) (i′ j′ : ℕ) → put m k i j (m k i j) k′ i′ j′ ≡ m k′ i′ j′
-    own k′ i′ j′ = elim (either (met k k′ i j i′ j′))
-      [ fails e ↦ rw e
-      | holds e ↦ let s : Same k k′ i j i′ j′ = met-same k k′ i j i′ j′ e in rw (e, s .kind, s .row, s .place) ]
+    own k′ i′ j′ = elim (either (met k k′ i j i′ j′)) [
+      | fails e ↦ rw e
+      | holds e ↦ let s : Same k k′ i j i′ j′ = met-same k k′ i j i′ j′ e in rw (e, s .kind, s .row, s .place)
+    ]
 
 -- a number tells the row and the column that it stands for, of rows that are n wide
 one-row : {n i j i′ j′ : ℕ} → j < n → j′ < n → i * n + j ≡ i′ * n + j′ → (i ≡ i′) × (j ≡ j′)
@@ -94,6 +95,7 @@ one-row {n} {i} {j} {i′} {j′} p q e = (rows, omega (arith, ap (λ z. z * n) 
   where
     row : (a b : ℕ) → b < n → (a * n + b) / n ≡ a
     row a b l = div-eq-of-lt-le n (omega arith) (omega (arith, suc-mul a n))
+
     rows : i ≡ i′
     rows = sym (row i j p) ∙ rw (e, row i′ j′ q)
 
@@ -115,9 +117,10 @@ module _ (S : Settings) where
   In s p = (start S s ≤ p) × (p ≤ start S s + size S s)
 
   ordered : (s s′ : ℕ) {p : ℕ} → In s p → In s′ p → s ≤ s′
-  ordered s s′ a b = elim (either (leb s s′))
-    [ holds e ↦ leb-true s s′ e
-    | fails e ↦ absurd (omega (arith, start-apart S s′ s (leb-false s s′ e))) ]
+  ordered s s′ a b = elim (either (leb s s′)) [
+    | holds e ↦ leb-true s s′ e
+    | fails e ↦ absurd (omega (arith, start-apart S s′ s (leb-false s s′ e)))
+  ]
 
   one-section : (s s′ : ℕ) {p : ℕ} → In s p → In s′ p → s ≡ s′
   one-section s s′ a b = omega (arith, ordered s s′ a b, ordered s′ s b a)
@@ -137,12 +140,15 @@ module _ (S : Settings) where
     where
       same-section : lay S k .section ≡ lay S k′ .section
       same-section = one-section _ _ (in-section k i j h) (rw e (in-section k′ i′ j′ h′))
+
       same-width : lay S k .width ≡ lay S k′ .width
       same-width = told k .wide ∙ rw (same-section, told k′ .wide)
+
       same-row : (i - lay S k .from ≡ i′ - lay S k′ .from) × (lay S k .offset + j ≡ lay S k′ .offset + j′)
       same-row =
           one-row {n = lay S k .width} (omega (arith, fitting S k .row)) (omega (arith, fitting S k′ .row, same-width))
           (omega (arith, ap (start S) same-section, ap (λ z. (i′ - lay S k′ .from) * z) same-width))
+
       same-kind : k ≡ k′
       same-kind = same-tag k k′ (told k .number j (h .place) ∙ rw (same-section, same-row .1, told k′ .number j′ (h′ .place)))
 
@@ -154,14 +160,19 @@ module _ (S : Settings) where
       other : (k′ : Kind) (i′ j′ : ℕ) → met k k′ i j i′ j′ ≡ false → Either (is-word S k′ i′ j′) → view S (set I (address S k i j) x) k′ i′ j′ ≡ view S I k′ i′ j′
       other k′ i′ j′ e (fails q) = rw q
       other k′ i′ j′ e (holds q) =
-          rw (q, getD-set-other I (address S k i j) (address S k′ i′ j′) x 0
-          (λ z. false≢true (sym e ∙ same-met k k′ i j i′ j′ (injective k k′ i j i′ j′ h (is-valid S k′ i′ j′ q) (sym z)))))
+          rw (
+            q,
+            getD-set-other I (address S k i j) (address S k′ i′ j′) x 0
+                (λ z. false≢true (sym e ∙ same-met k k′ i j i′ j′ (injective k k′ i j i′ j′ h (is-valid S k′ i′ j′ q) (sym z)))),
+          )
+
       at : (k′ : Kind) (i′ j′ : ℕ) → view S (set I (address S k i j) x) k′ i′ j′ ≡ put (view S I) k i j x k′ i′ j′
-      at k′ i′ j′ = elim (either (met k k′ i j i′ j′))
-        [ fails e ↦ rw e (other k′ i′ j′ e (either (is-word S k′ i′ j′)))
+      at k′ i′ j′ = elim (either (met k k′ i j i′ j′)) [
+        | fails e ↦ rw e (other k′ i′ j′ e (either (is-word S k′ i′ j′)))
         | holds e ↦
             let s : Same k k′ i j i′ j′ = met-same k k′ i j i′ j′ e in
-            rw (e, ← s .kind, ← s .row, ← s .place, valid-is S k i j h) (getD-set-same I (address S k i j) x 0 (omega (arith, inside S k i j h))) ]
+            rw (e, ← s .kind, ← s .row, ← s .place, valid-is S k i j h) (getD-set-same I (address S k i j) x 0 (omega (arith, inside S k i j h)))
+      ]
 
   -- writes keep the length
   one-length : (I : List ℕ) (z : Write) → length (write S I z) ≡ length I
@@ -173,9 +184,10 @@ module _ (S : Settings) where
 
   -- the words of all writes are put into the state
   stored-one : (I : List ℕ) (z : Write) → Valid S (z .kind) (z .row) (z .place) → words S ≤ length I → view S (write S I z) ≡ puts (view S I) (z ∷ [])
-  stored-one I z h l = elim (either (z .on))
-    [ holds e ↦ rw e (stored I (z .kind) (z .row) (z .place) (z .word) h l)
-    | fails e ↦ rw e (sym (put-own (view S I) (z .kind) (z .row) (z .place))) ]
+  stored-one I z h l = elim (either (z .on)) [
+    | holds e ↦ rw e (stored I (z .kind) (z .row) (z .place) (z .word) h l)
+    | fails e ↦ rw e (sym (put-own (view S I) (z .kind) (z .row) (z .place)))
+  ]
 
   pub stored-all : (zs : List Write) (I : List ℕ) → AllValid S zs → words S ≤ length I → view S (write-all S I zs) ≡ puts (view S I) zs
   stored-all [] I h l = refl
@@ -188,9 +200,10 @@ module _ (S : Settings) where
 
   kept : (p : ℕ) → Spared p → (zs : List Write) (I : List ℕ) → AllValid S zs → getD (write-all S I zs) p 0 ≡ getD I p 0
   kept p n [] I h = refl
-  kept p n (z ∷ zs) I h = kept p n zs (write S I z) (h .1) ∙ elim (either (z .on))
-    [ holds e ↦ rw e (getD-set-other I (address S (z .kind) (z .row) (z .place)) p (z .word) 0 (n (z .kind) (z .row) (z .place) (h .0)))
-    | fails e ↦ rw e ]
+  kept p n (z ∷ zs) I h = kept p n zs (write S I z) (h .1) ∙ elim (either (z .on)) [
+    | holds e ↦ rw e (getD-set-other I (address S (z .kind) (z .row) (z .place)) p (z .word) 0 (n (z .kind) (z .row) (z .place) (h .0)))
+    | fails e ↦ rw e
+  ]
 
   -- no count's index is a word's address, and no setting's is
   spared-count : (s : ℕ) → Spared (start S s)

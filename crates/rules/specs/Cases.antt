@@ -82,8 +82,8 @@ kept : Case
 kept = record {
   settings = settings-of 1 1 1 1 1 0;
   lines =
-    does 0 #allocate 0 0 0 1 ∷ does 0 #swap 0 0 1 1 ∷ does 0 #load 0 0 0 1 ∷ does 0 #reserve 0 0 0 1 ∷ does 0 #check 0 0 0 1
-    ∷ does 0 #swap 0 1 0 1 ∷ does 0 #retire 1 0 0 1 ∷ advances 0 1 ∷ advances 0 1 ∷ advances 0 1 ∷ advances 0 1 ∷ advances 0 2 ∷ [];
+      does 0 #allocate 0 0 0 1 ∷ does 0 #swap 0 0 1 1 ∷ does 0 #load 0 0 0 1 ∷ does 0 #reserve 0 0 0 1 ∷ does 0 #check 0 0 0 1
+      ∷ does 0 #swap 0 1 0 1 ∷ does 0 #retire 1 0 0 1 ∷ advances 0 1 ∷ advances 0 1 ∷ advances 0 1 ∷ advances 0 1 ∷ advances 0 2 ∷ [];
   always = [];
   finally = is Status 1 0 2 ∷ is Length 0 0 1 ∷ is Entry 0 0 1 ∷ [];
   quiet = false;
@@ -94,8 +94,8 @@ wrapped : Case
 wrapped = record {
   settings = settings-of 2 1 1 1 1 4294967295;
   lines =
-    does 0 #allocate 0 0 0 1 ∷ does 0 #retire 1 0 0 1 ∷ advances 0 1 ∷ advances 0 1 ∷ advances 0 1 ∷ advances 0 1
-    ∷ does 1 #deliver 0 0 0 1 ∷ does 1 #handle 0 0 0 1 ∷ does 1 #handle 0 0 0 2 ∷ advances 0 1 ∷ advances 0 1 ∷ [];
+      does 0 #allocate 0 0 0 1 ∷ does 0 #retire 1 0 0 1 ∷ advances 0 1 ∷ advances 0 1 ∷ advances 0 1 ∷ advances 0 1
+      ∷ does 1 #deliver 0 0 0 1 ∷ does 1 #handle 0 0 0 1 ∷ does 1 #handle 0 0 0 2 ∷ advances 0 1 ∷ advances 0 1 ∷ [];
   always = [];
   finally = is Collected 0 1 4294967295 ∷ is Count 1 0 0 ∷ [];
   quiet = false;
@@ -106,8 +106,8 @@ stuck : Case
 stuck = record {
   settings = settings-of 2 1 1 1 1 7;
   lines =
-    does 0 #allocate 0 0 0 1 ∷ does 0 #retire 1 0 0 1 ∷ advances 0 1 ∷ advances 0 1 ∷ advances 0 1 ∷ advances 0 1
-    ∷ advances 0 1 ∷ advances 0 0 ∷ [];
+      does 0 #allocate 0 0 0 1 ∷ does 0 #retire 1 0 0 1 ∷ advances 0 1 ∷ advances 0 1 ∷ advances 0 1 ∷ advances 0 1
+      ∷ advances 0 1 ∷ advances 0 0 ∷ [];
   always = [];
   finally = is Collected 0 1 7 ∷ is Count 1 0 7 ∷ [];
   quiet = true;
@@ -118,8 +118,8 @@ reused : Case
 reused = record {
   settings = settings-of 1 1 1 1 1 0;
   lines =
-    does 0 #allocate 0 0 0 1 ∷ refuses 0 #allocate 0 0 0 7 ∷ does 0 #retire 1 0 0 1 ∷ advances 0 1 ∷ advances 0 1
-    ∷ advances 0 1 ∷ advances 0 1 ∷ advances 0 3 ∷ does 0 #allocate 0 0 0 1 ∷ [];
+      does 0 #allocate 0 0 0 1 ∷ refuses 0 #allocate 0 0 0 7 ∷ does 0 #retire 1 0 0 1 ∷ advances 0 1 ∷ advances 0 1
+      ∷ advances 0 1 ∷ advances 0 1 ∷ advances 0 3 ∷ does 0 #allocate 0 0 0 1 ∷ [];
   always = [];
   finally = [];
   quiet = false;
@@ -130,8 +130,8 @@ named-first : Case
 named-first = record {
   settings = settings-of 1 1 1 1 2 0;
   lines =
-    does 0 #allocate 0 0 0 1 ∷ does 0 #swap 0 0 1 1 ∷ refuses 0 #retire 1 0 0 9 ∷ does 0 #swap 0 1 0 1
-    ∷ does 0 #retire 1 0 0 1 ∷ refuses 0 #retire 1 0 0 8 ∷ [];
+      does 0 #allocate 0 0 0 1 ∷ does 0 #swap 0 0 1 1 ∷ refuses 0 #retire 1 0 0 9 ∷ does 0 #swap 0 1 0 1
+      ∷ does 0 #retire 1 0 0 1 ∷ refuses 0 #retire 1 0 0 8 ∷ [];
   always = [];
   finally = [];
   quiet = true;
@@ -142,8 +142,8 @@ named-then-busy : Case
 named-then-busy = record {
   settings = settings-of 1 1 1 1 1 0;
   lines =
-    does 0 #allocate 0 0 0 1 ∷ does 0 #swap 0 0 1 1 ∷ refuses 0 #retire 1 0 0 9 ∷ does 0 #swap 0 1 0 1
-    ∷ does 0 #retire 1 0 0 1 ∷ refuses 0 #retire 1 0 0 6 ∷ [];
+      does 0 #allocate 0 0 0 1 ∷ does 0 #swap 0 0 1 1 ∷ refuses 0 #retire 1 0 0 9 ∷ does 0 #swap 0 1 0 1
+      ∷ does 0 #retire 1 0 0 1 ∷ refuses 0 #retire 1 0 0 6 ∷ [];
   always = [];
   finally = [];
   quiet = true;
@@ -164,10 +164,10 @@ pinged-twice : Case
 pinged-twice = record {
   settings = settings-of 3 1 1 2 1 0;
   lines =
-    does 0 #allocate 0 0 0 1 ∷ does 0 #allocate 0 0 0 2 ∷ does 0 #retire 1 0 0 1 ∷ does 2 #retire 2 0 0 1
-    ∷ advances 0 1 ∷ advances 0 1 ∷ advances 0 1 ∷ advances 0 1 ∷ advances 0 1 ∷ does 1 #deliver 0 0 0 1
-    ∷ advances 2 1 ∷ advances 2 1 ∷ advances 2 1 ∷ advances 2 1 ∷ advances 2 1 ∷ refuses 1 #deliver 0 0 0 5
-    ∷ does 1 #handle 0 0 0 1 ∷ does 1 #handle 0 0 0 2 ∷ [];
+      does 0 #allocate 0 0 0 1 ∷ does 0 #allocate 0 0 0 2 ∷ does 0 #retire 1 0 0 1 ∷ does 2 #retire 2 0 0 1
+      ∷ advances 0 1 ∷ advances 0 1 ∷ advances 0 1 ∷ advances 0 1 ∷ advances 0 1 ∷ does 1 #deliver 0 0 0 1
+      ∷ advances 2 1 ∷ advances 2 1 ∷ advances 2 1 ∷ advances 2 1 ∷ advances 2 1 ∷ refuses 1 #deliver 0 0 0 5
+      ∷ does 1 #handle 0 0 0 1 ∷ does 1 #handle 0 0 0 2 ∷ [];
   always = [];
   finally = is Pending 1 0 1 ∷ [];
   quiet = false;
@@ -188,8 +188,8 @@ emptied : Case
 emptied = record {
   settings = settings-of 2 1 1 1 1 0;
   lines =
-    does 0 #allocate 0 0 0 1 ∷ does 0 #swap 0 0 1 1 ∷ does 1 #load 0 0 0 1 ∷ does 0 #swap 0 1 0 1 ∷ does 1 #reserve 0 0 0 1
-    ∷ does 1 #check 0 0 0 0 ∷ refuses 1 #use 0 0 0 11 ∷ [];
+      does 0 #allocate 0 0 0 1 ∷ does 0 #swap 0 0 1 1 ∷ does 1 #load 0 0 0 1 ∷ does 0 #swap 0 1 0 1 ∷ does 1 #reserve 0 0 0 1
+      ∷ does 1 #check 0 0 0 0 ∷ refuses 1 #use 0 0 0 11 ∷ [];
   always = [];
   finally = is Private 1 0 1 ∷ [];
   quiet = true;

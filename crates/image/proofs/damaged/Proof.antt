@@ -26,7 +26,7 @@ right-requires : tie.Need-right-requires
 right-requires c κs = search needs
 
 returns-2 : tie.Need-returns-2
-returns-2 c = 
+returns-2 c =
     verdict _ (c .before .before .before .before .before .before .before .before .settings .ensures) (c .before .before .before .before .before .before .before .legal .ensures) (c .before .before .before .laid .ensures) (c .before .before .before .before .before .before .if2 .taken) (c .before .before .if3 .taken)
     (c .before .layout-of .ensures .1) (c .right .ensures)
 

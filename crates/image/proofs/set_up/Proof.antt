@@ -22,18 +22,19 @@ put-settings-requires : tie.Need-put-settings-requires
 put-settings-requires c κs = long-enough _ (c .before .before .total .ensures) (c .before .if2 .taken)
 
 put-sections-requires : tie.Need-put-sections-requires
-put-sections-requires c κs = 
-    ( limits-then (c .before .before .before .before .before .before .before .before .before .before .before .before .given .ensures) (c .before .before .before .before .before .before .before .before .before .before .before .legal .ensures) (c .before .before .before .before .before .before .before .before .before .before .if1 .taken)
-    , c .before .before .before .before .before .before .before .before .before .sizes .ensures
-    , c .before .before .before .before .put-settings .ensures .0 ∙ c .before .before .before .before .before .before .if2 .taken ∙ c .before .before .before .before .before .before .before .total .ensures
-    , sym (ap (λ z. z .start) (c .before .before .before .before .before .before .before .before .before .before .before .before .given .ensures))
-    , c .before .before .before .before .put-settings .ensures .1 ∙ ap (λ z. fresh-up-to z 1) (sym (c .before .before .before .before .before .before .before .before .before .before .before .before .given .ensures)) )
+put-sections-requires c κs = (
+  limits-then (c .before .before .before .before .before .before .before .before .before .before .before .before .given .ensures) (c .before .before .before .before .before .before .before .before .before .before .before .legal .ensures) (c .before .before .before .before .before .before .before .before .before .before .if1 .taken),
+  c .before .before .before .before .before .before .before .before .before .sizes .ensures,
+  c .before .before .before .before .put-settings .ensures .0 ∙ c .before .before .before .before .before .before .if2 .taken ∙ c .before .before .before .before .before .before .before .total .ensures,
+  sym (ap (λ z. z .start) (c .before .before .before .before .before .before .before .before .before .before .before .before .given .ensures)),
+  c .before .before .before .before .put-settings .ensures .1 ∙ ap (λ z. fresh-up-to z 1) (sym (c .before .before .before .before .before .before .before .before .before .before .before .before .given .ensures)),
+)
 
 same-length : tie.Need-same-length
 same-length c = search needs
 
 returns : tie.Need-returns
-returns c = 
+returns c =
     out-0 (c .before .before .before .before .before .before .before .before .before .before .before .before .before .before .before .given .ensures) (c .before .before .before .before .before .before .before .before .before .before .before .before .before .before .legal .ensures) _ (c .before .before .before .before .before .before .before .before .before .before .before .before .before .if1 .taken) (c .before .before .before .before .before .before .before .before .before .before .total .ensures) (c .before .before .before .before .before .before .before .before .before .if2 .taken)
     (c .before .before .put-sections .ensures)
 

@@ -51,10 +51,11 @@ loop-less c = omega arith
 
 loop-again : tie.Need-loop-again Inv-loop μ-loop
 loop-again c =
-    let l = c .before .loop in
-    ( omega arith
-    , length-set (l .words) _ _ ∙ l .inv .1
-    , run-more (l .words) (take (c .before .before .args .p + 1) (set (c .before .before .args .words .now) (c .before .before .args .p) (c .before .before .args .n))) (c .before .before .args .p + 1) (l .i) (c .before .before .args .x) (in-run c) (l .inv .2) )
+    let l = c .before .loop in (
+      omega arith,
+      length-set (l .words) _ _ ∙ l .inv .1,
+      run-more (l .words) (take (c .before .before .args .p + 1) (set (c .before .before .args .words .now) (c .before .before .args .p) (c .before .before .args .n))) (c .before .before .args .p + 1) (l .i) (c .before .before .args .x) (in-run c) (l .inv .2),
+    )
 
 same-length : tie.Need-same-length Inv-loop μ-loop
 same-length c = c .before .loop .inv .1 ∙ length-set (c .before .before .args .words .now) _ _

@@ -65,12 +65,13 @@ loop-less c = omega arith
 loop-again : tie.Need-loop-again Inv-loop μ-loop
 loop-again c =
     let t = c .before .before .before .before .before .before in
-    let f = c .before .before .fill .ensures in
-    ( omega arith
-    , omega arith
-    , f .long ∙ t .before .loop .inv .2
-    , λ S e q h. begun-more S (t .before .loop .words) _ _ (t .before .loop .k) (omega arith) e (c .before .before .before .word-of .ensures ∙ ap (λ z. cond (eqb (t .before .loop .k) counts-section) z 0) q)
-        (t .before .loop .inv .3 S e q h) f )
+    let f = c .before .before .fill .ensures in (
+      omega arith,
+      omega arith,
+      f .long ∙ t .before .loop .inv .2,
+      λ S e q h. begun-more S (t .before .loop .words) _ _ (t .before .loop .k) (omega arith) e (c .before .before .before .word-of .ensures ∙ ap (λ z. cond (eqb (t .before .loop .k) counts-section) z 0) q)
+          (t .before .loop .inv .3 S e q h) f,
+    )
 
 same-length : tie.Need-same-length Inv-loop μ-loop
 same-length c = c .before .loop .inv .2

@@ -3,7 +3,7 @@ use native.Mathlib.Omega.{arith}
 use lib.Dec.{lit≤}
 use borrow.Author.Needs.{needs}
 use Rattle.rules.proofs.Limits.{room-most}
-use Rattle.image.proofs.Sums.{start-fits, lists-fit}
+use Rattle.image.proofs.Sections.{start-fits, lists-fit}
 use Rattle.image.proofs.Stands.{length-stands}
 use Rattle.image.proofs.layout.length_at.Statement.{statement}
 use Rattle.image.proofs.layout.length_at.Tie as tie
@@ -22,8 +22,12 @@ in-row-requires c κs = omega (arith, lists-fit (c .before .pre .0 .limits) (c .
 
 add-result-2 : tie.Need-add-result-2
 add-result-2 c =
-    omega (arith, start-fits _ 9 (c .before .before .pre .0 .limits) (lit≤ tt) (c .before .start .ensures),
-    lists-fit (c .before .before .pre .0 .limits) (c .before .before .pre .0 .room), c .in-row .ensures .1)
+    omega (
+      arith,
+      start-fits _ 9 (c .before .before .pre .0 .limits) (lit≤ tt) (c .before .start .ensures),
+      lists-fit (c .before .before .pre .0 .limits) (c .before .before .pre .0 .room),
+      c .in-row .ensures .1,
+    )
 
 returns : tie.Need-returns
 returns c =

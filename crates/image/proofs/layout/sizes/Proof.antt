@@ -3,7 +3,7 @@ use native.Mathlib.Omega.{arith}
 use borrow.Author.Needs.{needs}
 use Rattle.rules.specs.Image.{sizes}
 use Rattle.rules.proofs.Limits.{slots-most, room-most, squares-most, scanned-most}
-use Rattle.image.proofs.Sums.{lists-fit}
+use Rattle.image.proofs.Sections.{lists-fit}
 use Rattle.image.proofs.layout.sizes.Statement.{statement}
 use Rattle.image.proofs.layout.sizes.Tie as tie
 

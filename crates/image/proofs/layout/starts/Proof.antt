@@ -6,7 +6,7 @@ use borrow.Author.Needs.{needs}
 use lib.ListN.{length, getD, length-set}
 use Rattle.rules.specs.Settings.{settings}
 use Rattle.rules.specs.Image.{sections, start}
-use Rattle.image.proofs.Sums.{start-none, stored-more, stored-at, count-in, count-fits, count-more}
+use Rattle.image.proofs.Sections.{start-none, stored-more, stored-at, count-in, count-fits, count-more}
 use Rattle.image.proofs.layout.starts.Statement.{statement}
 use Rattle.image.proofs.layout.starts.Tie as tie
 
@@ -50,11 +50,12 @@ loop-less c = omega arith
 
 loop-again : tie.Need-loop-again Inv-loop μ-loop
 loop-again c =
-    let l = c .before .before .before .loop in
-    ( omega arith
-    , count-more (c .before .before .before .before .before .pre) (c .before .before .loop-test .taken) (c .before .before .before .loop .inv .1) _ (c .wide .ensures)
-    , simp length-set (l .inv .2)
-    , stored-more (start (settings (c .before .before .before .before .before .args .words .now))) (l .starts) (l .k) (l .p) (omega arith) (l .inv .1) (l .inv .3) )
+    let l = c .before .before .before .loop in (
+      omega arith,
+      count-more (c .before .before .before .before .before .pre) (c .before .before .loop-test .taken) (c .before .before .before .loop .inv .1) _ (c .wide .ensures),
+      simp length-set (l .inv .2),
+      stored-more (start (settings (c .before .before .before .before .before .args .words .now))) (l .starts) (l .k) (l .p) (omega arith) (l .inv .1) (l .inv .3),
+    )
 
 array-write-starts-2 : tie.Need-array-write-starts-2 Inv-loop μ-loop
 array-write-starts-2 c = omega arith

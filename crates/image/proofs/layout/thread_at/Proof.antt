@@ -2,7 +2,7 @@
 use native.Mathlib.Omega.{arith}
 use lib.Dec.{lit≤}
 use borrow.Author.Needs.{needs}
-use Rattle.image.proofs.Sums.{start-fits}
+use Rattle.image.proofs.Sections.{start-fits}
 use Rattle.image.proofs.Stands.{thread-stands}
 use Rattle.image.proofs.layout.thread_at.Statement.{statement}
 use Rattle.image.proofs.layout.thread_at.Tie as tie

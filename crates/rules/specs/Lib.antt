@@ -12,4 +12,5 @@ pub mod Replies
 pub mod Step
 pub mod ListQuestion
 pub mod Schedules
+pub mod Program
 pub mod Cases

@@ -145,7 +145,7 @@ pub fn start(l: Layout, k: usize) -> usize
 }
 
 // Column j of row i, of m rows that are n wide.
-fn in_row(m: usize, n: usize, i: usize, j: usize) -> usize
+pub fn in_row(m: usize, n: usize, i: usize, j: usize) -> usize
     requires { ⌜ (m * n ≤ 8209) × (i < m) × (j < n) ⌝ }
     ensures { λ r. ⌜ (r ≡ i * n + j) × (r < m * n) ⌝ }
 {

@@ -9,6 +9,8 @@ pub mod Sound
 pub mod Refused
 pub mod Rows
 pub mod Kept
+pub mod Lowest
 pub mod Checked
 pub mod EqualReplies
-pub mod Table
+pub mod CasesPass
+pub mod ShutOut

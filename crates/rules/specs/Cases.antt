@@ -1,4 +1,4 @@
--- 01, Both sides of each edge: the cases marked (P), as one table. That they all pass is proved in proofs/Table.antt.
+-- 01, Both sides of each edge: the cases marked (P), as one table. That they all pass is proved in proofs/CasesPass.antt.
 use mathlib.Core.Bool.{Bool, true, false, cond, not, _&&_, _||_}
 use mathlib.Core.List.{List, [], _∷_}
 use Prim.Native.Nat.{ℕ}

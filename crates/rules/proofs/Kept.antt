@@ -1,8 +1,8 @@
 -- The law of the machine: a step leaves an undamaged image undamaged, but the one that marks an empty slot.
 use mathlib.Core.Path.{_≡_, refl, sym, _∙_, fun-ext}
 use mathlib.Core.Logic.{_≢_}
-use mathlib.Core.Bool.{true, false, cond, not, Bool·not-not}
-use mathlib.Core.List.{List, [], _∷_}
+use mathlib.Core.Bool.{Bool, true, false, cond, not, _&&_, Bool·not-not}
+use mathlib.Core.List.{List}
 use Prim.Native.Nat.{ℕ, suc, _+_, _≤_, _<_}
 use native.Mathlib.Decide.{ℕ-discrete}
 use native.Mathlib.Omega.{arith}
@@ -11,41 +11,22 @@ use lib.Dec.{eqb, leb}
 use borrow.Author.Tests.{eqb-true, eqb-false, eq-eqb, ne-eqb}
 use Rattle.rules.specs.declared.Settings.{Settings}
 use Rattle.rules.specs.Settings.{slot, all-slots, settings}
-use Rattle.rules.specs.Phases.{idle, reserved, collecting, waiting, scanning, freeing}
-use Rattle.rules.specs.State.{Kind, Cell, Status, Private, Published, Held, Phase, U′, V′, W′, Pending, Handler, Length, Entry, Scanned, State, cell, private, held, phase, u, v, w, list-length, entry, Write}
+use Rattle.rules.specs.Phases.{idle, reserved, collecting, waiting, scanning, freeing, #check}
+use Rattle.rules.specs.State.{Kind, Cell, Status, Private, Published, Held, Phase, U′, V′, W′, Pending, Handler, Length, Entry, Scanned, State, cell, private, held, phase, u, v, w, list-length, entry, Write, Answer}
 use Rattle.rules.specs.Image.{view, write-all}
 use Rattle.rules.specs.Damaged.{right, undamaged, damaged}
-use Rattle.rules.specs.Operations.{load, reserve, to-idle, check, clear, retire, deliver}
+use Rattle.rules.specs.Operations.{allocate, swap, load, reserve, to-idle, check, use-slot, clear, retire, deliver}
 use Rattle.rules.specs.Advance.{onward, collect, ping, scan, freed-on}
 use Rattle.rules.specs.Replies.{Step, refusal}
 use Rattle.rules.specs.Step.{perform, marks-empty, step}
 use Rattle.rules.proofs.Laws.{same, diff, sep, holds, fails, either, and-says, and-fails, tests}
 use Rattle.rules.proofs.Limits.{Limits, in-row}
-use Rattle.rules.proofs.Writes.{Same, met, met-same, put, puts, AllValid, stored-all, kept-settings, laid-kept}
+use Rattle.rules.proofs.Writes.{tag, put, puts, AllValid, stored-all, kept-settings, laid-kept}
 use Rattle.rules.proofs.Sound.{Line, Thread, Sound, right-says, says-right, undamaged-says}
 use Rattle.rules.proofs.Refused.{Accepted, refused-is, accepted-is, accepted-says}
-use Rattle.rules.proofs.Rows.{Row, RowAt, thread-row, row-used, marking, Does, nothing, allocates, swaps, loads, reserves, checks, clears, retires, collects, pings, waits, scans, keeps, frees, delivers, copies, counts, does, most, rowed, AllGood, good, writes-valid}
-
-module _ (S : Settings) (t : ℕ) where
-  -- a word within its bound stays so
-  small-kept : (zs : List Write) (m : State) → AllGood S t zs → (k : Kind) (i j : ℕ) → m k i j ≤ most S k (m k i j) → puts m zs k i j ≤ most S k (puts m zs k i j)
-  small-kept [] m g k i j h = h
-  small-kept (z ∷ zs) m g k i j h = small-kept zs _ (g .1) k i j (elim (either (met (z .kind) k (z .row) (z .place) i j)) [
-    | fails e ↦ rw e h
-    | holds e ↦
-        let s : Same (z .kind) k (z .row) (z .place) i j = met-same (z .kind) k (z .row) (z .place) i j e in
-        rw e (elim (either (z .on)) [ holds o ↦ rw (o, ← s .kind) (g .0 .small) | fails o ↦ rw (o, s .kind, s .row, s .place) h ])
-  ])
-
-  -- the phase and the list of another thread are as they were
-  other-kept : (zs : List Write) (m : State) → AllGood S t zs → (k : Kind) → rowed k ≡ true → (i j : ℕ) → i ≢ t → puts m zs k i j ≡ m k i j
-  other-kept [] m g k r i j n = refl
-  other-kept (z ∷ zs) m g k r i j n = other-kept zs _ (g .1) k r i j n ∙ elim (either (met (z .kind) k (z .row) (z .place) i j)) [
-    | fails e ↦ rw e
-    | holds e ↦
-        let s : Same (z .kind) k (z .row) (z .place) i j = met-same (z .kind) k (z .row) (z .place) i j e in
-        absurd (n (sym (s .row) ∙ rw (s .kind, r) at (g .0 .own)))
-  ]
+use Rattle.rules.proofs.Rows.{Row, RowAt, thread-row, row-used}
+use Rattle.rules.proofs.Moves.{own, rows-own, other-row, Move, allocates, swaps, loads, reserves, checks, uses, clears, retires, collects, pings, waits, stays, scans, keeps, frees, delivers, copies, counts, performs}
+use Rattle.rules.proofs.Words.{most, good, small-kept, writes-valid}
 
 -- rows: another line, and the ways on
 module _ {S : Settings} {n p u v w : ℕ} {es : ℕ → ℕ} (r : Row S n p u v w es) where
@@ -96,31 +77,44 @@ nonzero m t i x j a b = rw (eq-eqb t t refl) (elim (sep i j) [ same e q ↦ rw q
 abbrev Beside : Settings → State → Type 0
 Beside S m = (x : ℕ) → x < all-slots S → held m x ≢ 0 → private m x ≢ 0
 
-module _ (S : Settings) (m : State) (t : ℕ) (l : Limits S) (h : Sound S m) (b : t < S .threads) (r : RowAt S m t) where
+-- thread t's check marks its slot
+abbrev marking : State → ℕ → Bool
+marking m t = eqb (cell m (v m t)) (w m t) && not (eqb (w m t) 0)
+
+-- and that slot is 0
+abbrev marking-null : Settings → State → ℕ → Bool
+marking-null S m t = marking m t && eqb (private m (slot S t (u m t))) 0
+
+module _ (S : Settings) (m : State) (s : Step) (l : Limits S) (h : Sound S m) (b : s .thread < S .threads) (r : RowAt S m (s .thread))
+    (whole : s .op ≡ #check → marking-null S m (s .thread) ≡ false) where
+  abbrev t : ℕ
+  t = s .thread
+
   -- a mark of 0 is set
   unmarked : (y z : ℕ) → Beside S (put (put m Private y 0 z) Held y 0 0)
   unmarked y z x o = elim (sep y x) [ same _ q ↦ rw q (λ n. absurd (n refl)) | diff _ q ↦ rw q (h .beside x o) ]
 
   -- the phase and the list of thread t itself, and the marks
-  effect : {zs : List Write} → Does S m t false zs → (RowAt S (puts m zs) t) × Beside S (puts m zs)
-  unfolding load reserve to-idle check clear retire onward collect ping scan freed-on deliver
-  effect nothing = (r, h .beside)
-  effect (allocates _ _) = (r, h .beside)
-  effect (swaps _ _) = (r, h .beside)
-  effect (loads {b = c} e x y) = (rw (eq-eqb t t refl) (lined r (omega arith) (omega arith) (omega (arith, h .cells c y))), h .beside)
-  effect (reserves e x y z) = (rw (eq-eqb t t refl) (lined r (omega arith) (omega arith) (omega arith)), unmarked (slot S t (u m t)) (w m t))
-  effect (checks e _ y) = (
+  effect : {a : Answer} → Move S m s a → (RowAt S (puts m (a .writes)) t) × Beside S (puts m (a .writes))
+  unfolding allocate swap load reserve to-idle check use-slot clear retire deliver onward collect ping scan freed-on
+  effect (allocates _) = (r, h .beside)
+  effect (swaps _) = (r, h .beside)
+  effect (loads f) = (rw (eq-eqb t t refl) (lined r (omega arith) (omega arith) (omega (arith, h .cells (s .b) (f .cell-fits)))), h .beside)
+  effect (reserves f) = (rw (eq-eqb t t refl) (lined r (omega arith) (omega arith) (omega arith)), unmarked (slot S t (u m t)) (w m t))
+  effect (checks f) = (
     rw (eq-eqb t t refl) (lined r (omega arith) (omega arith) (omega arith)),
     λ x o. elim (sep (slot S t (u m t)) x) [
       | diff _ q ↦ rw q (h .beside x o)
       | same i q ↦ rw q (elim (either (marking m t))
-          [ holds z ↦ rw (z, ← i) (λ _. eqb-false _ 0 (and-fails _ _ .0 (sym y) z)) | fails z ↦ rw (z, i) (h .beside x o) ])
+          [ holds z ↦ rw (z, ← i) (λ _. eqb-false _ 0 (and-fails _ _ .0 (whole (f .op)) z)) | fails z ↦ rw (z, i) (h .beside x o) ])
     ],
   )
-  effect (clears {a} _) = (r, unmarked (slot S t a) 0)
-  effect (retires {a} e x _ _) =
-      let longer : Row S (list-length m t + 1) (phase m t) (u m t) (v m t) (w m t) (entry (put m Entry t (list-length m t) a) t) = record {
-        full = λ _ i o. nonzero m t _ a i (λ _. omega arith) (λ n. r .full (omega arith) i (omega arith));
+  effect (uses _) = (r, h .beside)
+  effect (clears _) = (r, unmarked (slot S t (s .a)) 0)
+  effect (retires f) =
+      let e : phase m t ≡ idle = f .at in
+      let longer : Row S (list-length m t + 1) (phase m t) (u m t) (v m t) (w m t) (entry (put m Entry t (list-length m t) (s .a)) t) = record {
+        full = λ _ i o. nonzero m t _ (s .a) i (λ _. f .some) (λ n. r .full (omega arith) i (omega arith));
         front = λ o. absurd (omega arith);
         back = λ o. absurd (omega arith);
         line = omega (arith, r .line .rest e);
@@ -129,30 +123,31 @@ module _ (S : Settings) (m : State) (t : ℕ) (l : Limits S) (h : Sound S m) (b 
             [ holds q ↦ rw q (lined longer {u′ = 0} (omega arith) (omega arith) (omega (arith, l .threads-low, r .line .rest e))) | fails q ↦ rw q longer ]),
         h .beside,
       )
-  effect (collects e _) = (rw (eq-eqb t t refl) (threads-row r l (omega arith) (omega arith) (omega arith)), h .beside)
-  effect (pings e _) = (rw (eq-eqb t t refl) (threads-row r l (omega arith) (omega arith) (omega arith)), h .beside)
-  effect (waits e _ _) = (rw (eq-eqb t t refl) (threads-row r l (omega arith) (omega arith) (omega arith)), h .beside)
-  effect (scans e _) = (rw (eq-eqb t t refl) (scan-row r e), h .beside)
-  effect (keeps e x y _) = (
+  effect (collects f) = (rw (eq-eqb t t refl) (threads-row r l (omega arith) (omega arith) (omega arith)), h .beside)
+  effect (pings f) = (rw (eq-eqb t t refl) (threads-row r l (omega arith) (omega arith) (omega arith)), h .beside)
+  effect (waits f) = (rw (eq-eqb t t refl) (threads-row r l (omega arith) (omega arith) (omega arith)), h .beside)
+  effect (stays _) = (r, h .beside)
+  effect (scans f) = (rw (eq-eqb t t refl) (scan-row r (f .at)), h .beside)
+  effect (keeps f) = let e : phase m t ≡ freeing = f .at in (
     rw (eq-eqb t t refl) (freed-row r (v m t + 1) _ e (omega arith)
-        (λ i o. nonzero (put m Entry t (u m t) 0) t (v m t) _ i (λ _. r .back e (u m t) (omega arith) x)
+        (λ i o. nonzero (put m Entry t (u m t) 0) t (v m t) _ i (λ _. f .some)
         (λ n. nonzero m t (u m t) 0 i (λ q. absurd (omega arith)) (λ _. r .front e i (omega arith))))
         (λ i o o′. nonzero (put m Entry t (u m t) 0) t (v m t) _ i (λ q. absurd (omega arith))
         (λ _. nonzero m t (u m t) 0 i (λ q. absurd (omega arith)) (λ _. r .back e i (omega arith) o′)))),
     h .beside,
   )
-  effect (frees e x y _) = (
+  effect (frees f) = let e : phase m t ≡ freeing = f .at in (
     rw (eq-eqb t t refl) (freed-row r (v m t) _ e (omega arith)
         (λ i o. nonzero m t (u m t) 0 i (λ q. absurd (omega arith)) (λ _. r .front e i o))
         (λ i o o′. nonzero m t (u m t) 0 i (λ q. absurd (omega arith)) (λ _. r .back e i (omega arith) o′))),
     h .beside,
   )
-  effect delivers = (r, h .beside)
-  effect (copies _ _) = (r, h .beside)
-  effect counts = (r, h .beside)
+  effect (delivers _) = (r, h .beside)
+  effect (copies _) = (r, h .beside)
+  effect (counts _) = (r, h .beside)
 
-  kept : {zs : List Write} → Does S m t false zs → Sound S (puts m zs)
-  kept {zs} d = record {
+  kept : {x : Answer} → Move S m s x → Sound S (puts m (x .writes))
+  kept {x = ans} d = record {
     cells = λ c o. small Cell c 0 (h .cells c o);
     privates = λ x o. small Private x 0 (h .privates x o);
     publisheds = λ x o. small Published x 0 (h .publisheds x o);
@@ -163,7 +158,7 @@ module _ (S : Settings) (m : State) (t : ℕ) (l : Limits S) (h : Sound S m) (b 
     beside = effect d .1;
     threads = λ a o.
         let z : Thread S m a = h .threads a o in
-        let r : RowAt S (puts m zs) a = row a o in
+        let r : RowAt S (puts m (ans .writes)) a = row a o in
         record {
           pending = small Pending a 0 (z .pending);
           handler = small Handler a 0 (z .handler);
@@ -173,18 +168,23 @@ module _ (S : Settings) (m : State) (t : ℕ) (l : Limits S) (h : Sound S m) (b 
         };
   }
     where
-      small : (k : Kind) (i j : ℕ) → m k i j ≤ most S k (m k i j) → puts m zs k i j ≤ most S k (puts m zs k i j)
-      small = small-kept S t zs m (good S m t h b d)
+      small : (k : Kind) (i j : ℕ) → m k i j ≤ most S k (m k i j) → puts m (ans .writes) k i j ≤ most S k (puts m (ans .writes) k i j)
+      small = small-kept S (ans .writes) m (good h s b d)
 
-      row : (a : ℕ) → a < S .threads → RowAt S (puts m zs) a
+      row : (a : ℕ) → a < S .threads → RowAt S (puts m (ans .writes)) a
       row a o = elim (ℕ-discrete a t) [
         | yes e ↦ rw e (effect d .0)
         | no n ↦
-            let same : (k : Kind) → rowed k ≡ true → (j : ℕ) → puts m zs k a j ≡ m k a j = λ k e j. other-kept S t zs m (good S m t h b d) k e a j n in
+            let same : (k : Kind) → own (tag k) ≡ true → (j : ℕ) → puts m (ans .writes) k a j ≡ m k a j = λ k e j. other-row (λ z. n (sym z)) k e j (ans .writes) (rows-own d) m in
             rw (same Length refl 0, same Phase refl 0, same U′ refl 0, same V′ refl 0, same W′ refl 0, fun-ext (same Entry refl)) (thread-row (h .threads a o))
       ]
 
 module _ (S : Settings) (m : State) (s : Step) (l : Limits S) (h : Sound S m) (e : refusal S m s ≡ 0) where
+  -- the test of the exception, for an accepted check
+  marks-is : s .op ≡ #check → marking-null S m (s .thread) ≡ marks-empty S m s
+  unfolding marks-empty
+  marks-is c = rw (e, c)
+
   -- the exception: the mark that it sets stands beside a private slot of 0
   marked : marks-empty S m s ≡ true → Sound S (puts m (perform S m s .writes)) → ⊥
   unfolding marks-empty perform check to-idle
@@ -201,7 +201,7 @@ module _ (S : Settings) (m : State) (s : Step) (l : Limits S) (h : Sound S m) (e
   right-kept =
       let o : s .thread < S .threads = accepted-says S m s e .thread in
       elim (either (marks-empty S m s)) [
-        | fails y ↦ rw y (says-right S (puts m (perform S m s .writes)) (kept S m (s .thread) l h o (thread-row (h .threads (s .thread) o)) (rw y at (does S m s h e))))
+        | fails y ↦ rw y (says-right S (puts m (perform S m s .writes)) (kept S m s l h o (thread-row (h .threads (s .thread) o)) (λ c. marks-is c ∙ y) (performs s h (accepted-says S m s e))))
         | holds y ↦ rw y (elim (either (right S (puts m (perform S m s .writes)))) [ fails z ↦ z | holds z ↦ absurd (marked y (right-says S _ z)) ])
       ]
 

@@ -12,5 +12,6 @@ pub mod Replies
 pub mod Step
 pub mod ListQuestion
 pub mod Schedules
+pub mod Demand3
 pub mod Program
 pub mod Cases

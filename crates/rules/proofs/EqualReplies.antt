@@ -1,8 +1,17 @@
 -- Two replies that fit a contract are equal: a line for each public function, over the clause that it ensures.
-use mathlib.Core.Path.{_≡_, sym, ap, _∙_}
-use mathlib.Core.Bool.{Bool}
-use mathlib.Core.List.{List}
-use Prim.Native.Nat.{ℕ}
+use mathlib.Core.Path.{_≡_, refl, sym, ap, _∙_}
+use mathlib.Core.Bool.{Bool, cond}
+use mathlib.Core.List.{List, [], _∷_}
+use Prim.Native.Nat.{ℕ, _+_, _*_}
+use lib.ListN.{getD}
+use lib.Dec.{eqb}
+use Rattle.rules.specs.declared.Why.{Why}
+use Rattle.rules.specs.declared.Why.the-variants.{Damaged, NoSuchOperation, NoSuchThread, OperandBeyond, HandlerRunning, PhaseForbids, NoneFree, NotLive, CellNames, ListFull, NotHeld}
+use Rattle.rules.specs.declared.Reply.{Reply}
+use Rattle.rules.specs.declared.Reply.the-variants.{Done, Refused}
+use Rattle.rules.specs.Replies.{Step, numberOf, valueOf}
+use Rattle.rules.specs.Step.{step}
+use Rattle.rules.specs.ListQuestion.{list-number, list-from, list-part}
 use Rattle.rules.specs.declared.Settings.{Settings}
 use Rattle.rules.specs.Image.{Outcome, outcome}
 use Rattle.rules.specs.Damaged.{damaged}
@@ -25,3 +34,31 @@ pub set-up-equal : (S : Settings) (I : List ℕ) {r r′ : ℕ} {J J′ : List �
 set-up-equal S I p q =
     let e = parts p q in
     (e .0, e .2)
+
+-- what a reply of the enum says tells which it is
+pub reply-said : (r r′ : Reply) → numberOf r ≡ numberOf r′ → valueOf r ≡ valueOf r′ → r ≡ r′
+reply-said r r′ n x = sym (replied r) ∙ rw (n, x) (replied r′)
+  where
+    why : ℕ → Why
+    why n = getD (Damaged ∷ Damaged ∷ NoSuchOperation ∷ NoSuchThread ∷ OperandBeyond ∷ HandlerRunning ∷ PhaseForbids ∷ NoneFree ∷ NotLive ∷ CellNames ∷ ListFull ∷ NotHeld ∷ []) n Damaged
+
+    reply : ℕ → ℕ → Reply
+    reply n x = cond (eqb n 0) (Done x) (Refused (why n))
+
+    replied : (r : Reply) → reply (numberOf r) (valueOf r) ≡ r
+    replied (Done x) = refl
+    replied (Refused w) = elim w [ Damaged ↦ refl | NoSuchOperation ↦ refl | NoSuchThread ↦ refl | OperandBeyond ↦ refl | HandlerRunning ↦ refl | PhaseForbids ↦ refl | NoneFree ↦ refl | NotLive ↦ refl | CellNames ↦ refl | ListFull ↦ refl | NotHeld ↦ refl ]
+
+pub step-equal : (I : List ℕ) (s : Step) (r r′ : Reply) {J J′ : List ℕ} → outcome (numberOf r) (valueOf r) J ≡ step I s
+    → outcome (numberOf r′) (valueOf r′) J′ ≡ step I s → (r ≡ r′) × (J ≡ J′)
+step-equal I s r r′ p q =
+    let e = parts p q in
+    (reply-said r r′ (e .0) (e .1), e .2)
+
+pub retired-number-equal : (I : List ℕ) (t : ℕ) {r r′ : ℕ} → r ≡ list-number I t → r′ ≡ list-number I t → r ≡ r′
+retired-number-equal I t p q = p ∙ sym q
+
+-- a part is known by its words and by where it stands: block and byte
+pub retired-equal : (I : List ℕ) (t b p : ℕ) {J J′ : List ℕ} {k k′ o o′ : ℕ} → (J ≡ list-part I t) × (k ≡ b) × (o ≡ p + list-from I t * 4)
+    → (J′ ≡ list-part I t) × (k′ ≡ b) × (o′ ≡ p + list-from I t * 4) → (J ≡ J′) × (k ≡ k′) × (o ≡ o′)
+retired-equal I t b p e d = (e .0 ∙ sym (d .0), e .1 ∙ sym (d .1), e .2 ∙ sym (d .2))

@@ -12,6 +12,7 @@ pub mod Moves
 pub mod Words
 pub mod Kept
 pub mod Lowest
+pub mod Branches
 pub mod Checked
 pub mod EqualReplies
 pub mod CasesPass

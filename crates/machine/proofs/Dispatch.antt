@@ -15,7 +15,8 @@ use Rattle.rules.specs.Image.{view, Outcome, outcome, after}
 use Rattle.rules.specs.Replies.{Step, step-of}
 use Rattle.rules.specs.Step.{perform, answer}
 use Rattle.rules.proofs.Sound.{Sound, Thread}
-use Rattle.rules.proofs.Checked.{checked, late, operand-wrong, handling, answer-2, answer-3, answer-4, answer-5, answer-6, answer-late, Entered, entered}
+use Rattle.rules.proofs.Checked.{checked, late, handling, answer-2, answer-3, answer-4, answer-5, answer-6, answer-late, Entered, entered}
+use Rattle.rules.proofs.Refused.{operand-wrong}
 use Rattle.rules.proofs.Branches.{says}
 use Rattle.image.specs.declared.layout.Layout.{Layout}
 use Rattle.image.specs.Fits.{Fits}

@@ -10,7 +10,7 @@ use Rattle.rules.specs.declared.Settings.{Settings}
 use Rattle.rules.specs.Phases.{operations, #retire}
 use Rattle.rules.specs.Replies.{Operand, limit, operands, not-listed, fits, operands-fit, step-of}
 use Rattle.rules.proofs.Laws.{end, _▸_, case-of}
-use Rattle.rules.proofs.Checked.{operand-wrong}
+use Rattle.rules.proofs.Refused.{operand-wrong}
 
 -- what operand i of an operation must be below
 abbrev pub operand-limit : Settings → ℕ → ℕ → ℕ

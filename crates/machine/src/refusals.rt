@@ -8,7 +8,7 @@ ghost use mathlib.Core.List.{[]};
 ghost use Rattle.rules.specs.Phases as table;
 ghost use Rattle.rules.specs.Replies.{limit, operands, not-listed, step-of};
 ghost use Rattle.rules.proofs.Limits.{Limits};
-ghost use Rattle.rules.proofs.Checked.{operand-wrong};
+ghost use Rattle.rules.proofs.Refused.{operand-wrong};
 use rules::Settings;
 
 // Which phases allow each operation: a row an operation, a column a phase.

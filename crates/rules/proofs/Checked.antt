@@ -3,7 +3,6 @@ use mathlib.Core.Path.{_≡_, refl, sym, ap, _∙_}
 use mathlib.Core.Bool.{Bool, true, false, cond, not, _&&_, _||_}
 use mathlib.Core.List.{List, [], _∷_}
 use Prim.Native.Nat.{ℕ, _+_, _≤_, _<_}
-use native.Mathlib.Omega.{arith}
 use lib.ListN.{getD}
 use lib.Dec.{eqb, leb}
 use borrow.Author.Tests.{ne-eqb}
@@ -13,10 +12,10 @@ use Rattle.rules.specs.Phases.{operations, loaded, reserved, collecting,
 use Rattle.rules.specs.State.{State, status, held, phase, pending, handler, list-length, Answer, refused}
 use Rattle.rules.specs.Operations.{lowest-free, named, allocate, swap, load, reserve, check, use-slot, clear, retire, deliver, handle}
 use Rattle.rules.specs.Advance.{advance}
-use Rattle.rules.specs.Replies.{Step, step-of, operands, fits, operands-fit, Ground, _if_, first-given, phase-forbids, not-live, refusals, refusal}
+use Rattle.rules.specs.Replies.{Step, step-of, operands-fit, Ground, _if_, first-given, phase-forbids, not-live, refusals, refusal}
 use Rattle.rules.specs.Step.{perform, answer}
 use Rattle.rules.proofs.Laws.{tests}
-use Rattle.rules.proofs.Refused.{allows-says}
+use Rattle.rules.proofs.Refused.{operand-wrong, Fitted, operands-say, allows-says}
 
 -- an answer behind rows of the table
 abbrev pub checked : List Ground → Answer → Answer
@@ -34,10 +33,7 @@ module _ (gs : List Ground) (a : Answer) where
   pub passed : (n : ℕ) (b : Bool) → b ≡ false → checked ((n if b) ∷ gs) a ≡ checked gs a
   passed n b e = rw e
 
--- the tests of rows 4 and 5
-abbrev pub operand-wrong : Settings → Step → Bool
-operand-wrong S s = not (operands-fit S s) || eqb (s .op) #retire && eqb (s .a) 0
-
+-- the test of row 5
 abbrev pub handling : State → Step → Bool
 handling m s = not (eqb (handler m (s .thread)) 0) && leb (s .op) #deliver
 
@@ -137,29 +133,19 @@ module _ (S : Settings) (m : State) (t a b c : ℕ) where
 pub record Entered (S : Settings) (m : State) (s : Step) : Type 0 where
   pub known : s .op < operations
   pub thread : s .thread < S .threads
-  pub swaps : s .op ≡ #swap → (s .a < S .cells) × (s .c ≤ S .records)
-  pub loads : s .op ≡ #load → s .b < S .cells
-  pub uses : s .op ≡ #use → s .a < S .slots
-  pub clears : s .op ≡ #clear → s .a < S .slots
-  pub retires : s .op ≡ #retire → (1 ≤ s .a) × (s .a ≤ S .records)
+  pub fitted : Fitted S s
   pub reserves : s .op ≡ #reserve → phase m (s .thread) ≡ loaded
   pub checks : s .op ≡ #check → phase m (s .thread) ≡ reserved
   pub advances : s .op ≡ #advance → collecting ≤ phase m (s .thread)
 
 pub entered : (S : Settings) (m : State) (t op a b c : ℕ) → op < operations → t < S .threads → operand-wrong S (step-of t op a b c) ≡ false
     → allows op (phase m t) ≡ true → Entered S m (step-of t op a b c)
-unfolding operands-fit fits operands
 entered S m t op a b c n2 n3 e4 e6 =
-    let n4 = simp tests at e4 in
     let p = simp tests at (allows-says op (phase m t) e6) in
     record {
       known = n2;
       thread = n3;
-      swaps = λ o. let q = rw o at (n4 .0) in omega arith;
-      loads = λ o. let q = rw o at (n4 .0) in omega arith;
-      uses = λ o. let q = rw o at (n4 .0) in omega arith;
-      clears = λ o. let q = rw o at (n4 .0) in omega arith;
-      retires = λ o. let q = rw o at (n4 .0) in omega (arith, n4 .1 o);
+      fitted = operands-say S (step-of t op a b c) e4;
       reserves = p .0 .0 .1;
       checks = p .0 .1;
       advances = p .1;

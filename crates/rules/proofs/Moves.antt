@@ -209,8 +209,8 @@ module _ (S : Settings) (m : State) (t : ℕ) (z : Thread S m t) where
         most = lowest-most m (S .records);
         free = lowest-is-free m (S .records) (k .free refl);
       }))
-      ▸ (λ k. swaps (record { op = refl; cell-fits = k .swaps refl .0; most = k .swaps refl .2; live = k .live-new refl }))
-      ▸ (λ k. loads (record { op = refl; at = k .rests refl; fits = k .loads refl .0; cell-fits = k .loads refl .1 }))
+      ▸ (λ k. swaps (record { op = refl; cell-fits = k .fitted .swaps refl .0; most = k .fitted .swaps refl .2; live = k .live-new refl }))
+      ▸ (λ k. loads (record { op = refl; at = k .rests refl; fits = k .fitted .loads refl .0; cell-fits = k .fitted .loads refl .1 }))
       ▸ (λ k.
       let e : phase m t ≡ loaded = k .reserves refl in
       let i = z .line .slot (omega arith) (omega arith) in
@@ -220,14 +220,14 @@ module _ (S : Settings) (m : State) (t : ℕ) (z : Thread S m t) where
       let i = z .line .slot (omega arith) (omega arith) in
       checks (record { op = refl; at = e; fits = i .0; cell-fits = i .1 }))
       ▸ (λ k. uses (record { op = refl }))
-      ▸ (λ k. clears (record { op = refl; at = k .rests refl; quiet = k .unhandled (omega arith); fits = k .clears refl }))
+      ▸ (λ k. clears (record { op = refl; at = k .rests refl; quiet = k .unhandled (omega arith); fits = k .fitted .clears refl }))
       ▸ (λ k.
       let e : phase m t ≡ idle = k .rests refl in
       retires (record {
         op = refl;
         at = e;
-        some = omega (arith, k .retires refl);
-        most = k .retires refl .1;
+        some = omega (arith, k .fitted .retires refl);
+        most = k .fitted .retires refl .1;
         shorter = omega (arith, k .shorter refl, z .length);
         live = k .live refl;
         first = z .line .rest e .0;

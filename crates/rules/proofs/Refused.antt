@@ -64,17 +64,36 @@ allows-says op p e =
     = every-at (λ o bs. every (λ i b. not b || phase-said o i) bs) allowed [] (λ _. refl) refl op in
     rw e at (every-at (λ i b. not b || phase-said op i) (getD allowed op []) false (λ _. refl) row p)
 
+-- the test of row 4, and what it leaves of the operands
+abbrev pub operand-wrong : Settings → Step → Bool
+operand-wrong S s = not (operands-fit S s) || eqb (s .op) #retire && eqb (s .a) 0
+
+pub record Fitted (S : Settings) (s : Step) : Type 0 where
+  pub swaps : s .op ≡ #swap → (s .a < S .cells) × (s .b ≤ S .records) × (s .c ≤ S .records)
+  pub loads : s .op ≡ #load → (s .a < S .slots) × (s .b < S .cells)
+  pub uses : s .op ≡ #use → s .a < S .slots
+  pub clears : s .op ≡ #clear → s .a < S .slots
+  pub retires : s .op ≡ #retire → (1 ≤ s .a) × (s .a ≤ S .records)
+
+pub operands-say : (S : Settings) (s : Step) → operand-wrong S s ≡ false → Fitted S s
+unfolding operands-fit fits operands
+operands-say S s e =
+    let n = simp tests at e in
+    record {
+      swaps = λ o. let q = rw o at (n .0) in omega arith;
+      loads = λ o. let q = rw o at (n .0) in omega arith;
+      uses = λ o. let q = rw o at (n .0) in omega arith;
+      clears = λ o. let q = rw o at (n .0) in omega arith;
+      retires = λ o. let q = rw o at (n .0) in omega (arith, n .1 o);
+    }
+
 -- what is known of step s, accepted in state m
 pub record Accepted (S : Settings) (m : State) (s : Step) : Type 0 where
   -- 2, 3
   pub known : s .op < operations
   pub thread : s .thread < S .threads
   -- 4
-  pub swaps : s .op ≡ #swap → (s .a < S .cells) × (s .b ≤ S .records) × (s .c ≤ S .records)
-  pub loads : s .op ≡ #load → (s .a < S .slots) × (s .b < S .cells)
-  pub uses : s .op ≡ #use → s .a < S .slots
-  pub clears : s .op ≡ #clear → s .a < S .slots
-  pub retires : s .op ≡ #retire → (1 ≤ s .a) × (s .a ≤ S .records)
+  pub fitted : Fitted S s
   -- 5
   pub unhandled : s .op ≤ #deliver → handler m (s .thread) ≡ 0
   -- 6
@@ -105,18 +124,15 @@ module _ (S : Settings) (m : State) (s : Step) where
   accepted-is e = rw e
 
   pub accepted-says : refusal S m s ≡ 0 → Accepted S m s
-  unfolding refusal refusals phase-forbids not-live operands-fit fits operands
+  unfolding refusal refusals phase-forbids not-live
   accepted-says e =
+      let (e2, (e3, (e4, _))) = passed (refusals S m s) refl e in
       let (n2, (n3, (n4, (n5, (n6, (n7, (n8, (n9, (n10, (n11, _)))))))))) = simp tests at (passed (refusals S m s) refl e) in
       let p = simp tests at (allows-says (s .op) (phase m (s .thread)) (n6 .0 .0)) in
       record {
         known = n2;
         thread = n3;
-        swaps = λ o. let q = rw o at (n4 .0) in omega arith;
-        loads = λ o. let q = rw o at (n4 .0) in omega arith;
-        uses = λ o. let q = rw o at (n4 .0) in omega arith;
-        clears = λ o. let q = rw o at (n4 .0) in omega arith;
-        retires = λ o. let q = rw o at (n4 .0) in omega (arith, n4 .1 o);
+        fitted = operands-say S s e4;
         unhandled = λ l. elim (ℕ-discrete (handler m (s .thread)) 0) [ yes h ↦ h | no h ↦ absurd (omega (arith, n5 h)) ];
         allowed = n6 .0 .0;
         rests = λ r. p .0 .0 .0 (simp tests at r);

@@ -31,3 +31,4 @@ pub mod Reclaimed
 pub mod NeverFull
 pub mod Demand3
 pub mod Witnesses
+pub mod CounterSchedules

@@ -106,7 +106,7 @@ one-listed = reached two (allocates ∷ allocates ∷ retires 2 ∷ [])
 abbrev last : Build → Outcome
 last f = f (f two-left advances .image) advances
 
-abbrev answers : Outcome → (number value : ℕ) → Type 0
+abbrev pub answers : Outcome → (number value : ℕ) → Type 0
 answers o n x = (o .number ≡ n) × (o .value ≡ x)
 
 -- what the builds and the rules answer there, by computation

@@ -1,23 +1,23 @@
 -- What the damage check tells the step and the list question, as the code comes to it: b is its verdict, S the layout's settings.
-use mathlib.Core.Path.{_≡_, refl, sym, ap, _∙_}
+use mathlib.Core.Path.{_≡_, sym, _∙_}
 use mathlib.Core.Logic.{_≢_}
-use mathlib.Core.Bool.{Bool, true, false, not, cond}
+use mathlib.Core.Bool.{Bool, true, false}
 use mathlib.Core.List.{List}
-use Prim.Native.Nat.{ℕ, _+_, _-_, _*_, _≤_, _<_}
+use Prim.Native.Nat.{ℕ, _+_, _-_, _≤_, _<_}
 use native.Mathlib.Omega.{arith}
 use native.Mathlib.Nat.{add-sub-cancel-left}
 use lib.ListN.{length, take, drop}
 use lib.Dec.{eqb, leb}
-use borrow.Author.Tests.{not-false, ne-eqb, le-leb, lt-leb, leb-false}
+use borrow.Author.Tests.{not-false, eqb-true, ne-eqb, le-leb, lt-leb, leb-false}
 use Rattle.rules.specs.declared.Settings.{Settings}
 use Rattle.rules.specs.Settings.{settings, all-slots, room}
-use Rattle.rules.specs.State.{Entry, Length, list-length, refused}
-use Rattle.rules.specs.Image.{start, within, address, view, words, Outcome, outcome, after}
+use Rattle.rules.specs.State.{Entry, list-length}
+use Rattle.rules.specs.Image.{within, address, view, Outcome, outcome, after}
 use Rattle.rules.specs.Damaged.{damaged}
 use Rattle.rules.specs.Replies.{Step}
 use Rattle.rules.specs.Step.{answer, step}
 use Rattle.rules.specs.ListQuestion.{list-number, list-from, list-many, list-part}
-use Rattle.rules.proofs.Laws.{Either, holds, fails, either}
+use Rattle.rules.proofs.Laws.{holds, fails, either}
 use Rattle.rules.proofs.Places.{inside}
 use Rattle.rules.proofs.Limits.{room-slots}
 use Rattle.rules.proofs.Shaped.{Shaped}
@@ -81,12 +81,6 @@ module _ (I : List ℕ) where
       pub asked-thread : t < l .settings .threads
       asked-thread = rw q (asked t (sym e ∙ h) .1)
 
-      asked-sound : Sound (settings I) (view (settings I) I)
-      asked-sound = undamaged-says I (not-false _ (asked t (sym e ∙ h) .0)) .1
-
-      pub asked-length : list-length (view (l .settings) I) t ≤ room (l .settings)
-      asked-length = rw q (asked-sound .threads t (asked t (sym e ∙ h) .1) .length)
-
       pub from-is : {p : ℕ} → At l Entry t 0 p → p ≡ list-from I t
       unfolding list-from
       from-is a = rw (sym e ∙ h, ← q) (a .here)
@@ -104,18 +98,20 @@ module _ (I : List ℕ) where
     unfolding list-many
     refused-many h = rw (ne-eqb (list-number I t) 0 (λ z. h (e ∙ z)))
 
--- a thread's entries stand inside the image
-pub entries-in : (l : Layout) (I : List ℕ) (t : ℕ) {p k : ℕ} → Fits l I → t < l .settings .threads → At l Entry t 0 p → k ≤ room (l .settings) → p + k ≤ length I
-unfolding address within
-entries-in l I t f h a q =
-    let r : all-slots (l .settings) < room (l .settings) = room-slots (f .fine .limits) in
-    omega (arith, a .here, f .long, inside (l .settings) Entry t (room (l .settings) - 1) (record { low = omega arith; high = omega arith; place = omega arith }))
+-- the part that the list question hands back stands inside the image
+pub part-inside : (I : List ℕ) (t : ℕ) → list-from I t + list-many I t ≤ length I
+unfolding list-from list-many address within
+part-inside I t = elim (either (eqb (list-number I t) 0)) [
+  | holds h ↦
+      let a = asked I t (eqb-true _ _ h) in
+      let q = undamaged-says I (not-false _ (a .0)) in
+      let r : all-slots (settings I) < room (settings I) = room-slots (q .0 .limits) in
+      rw h (omega (arith, q .0 .long, q .1 .threads t (a .1) .length, inside (settings I) Entry t (room (settings I) - 1) (record { low = omega arith; high = omega (arith, a .1); place = omega arith })))
+  | fails h ↦ rw h (omega arith)
+]
 
 pub room-first : (l : Layout) {I : List ℕ} → Fits l I → 0 < l .room
 room-first l f = omega (arith, f .fine .room, room-slots (f .fine .limits))
-
-pub short : {a b n : ℕ} → a ≤ n → b ≡ a → b ≤ n
-short h e = rw e h
 
 -- a part that stands where the list question says
 pub part-is : (I : List ℕ) (t : ℕ) {p k : ℕ} → p ≡ list-from I t → k ≡ list-many I t → take ((p + k) - p) (drop p I) ≡ list-part I t

@@ -39,16 +39,41 @@ pub fn retired_number(image: &[u32], thread: u32) -> u32
     if threads <= thread as usize { 3 } else { 0 }
 }
 
+// The list question's number, where the part that it hands back begins, and how many words that has: 0 and 0 where refused.
+pub struct Part {
+    pub number: u32,
+    pub from: u32,
+    pub length: u32,
+}
+
+pub fn retired_at(image: &[u32], thread: u32) -> Part
+    ensures { λ r. ⌜ (r .number ≡ question.list-number (now (image .entry)) thread) × (r .from ≡ question.list-from (now (image .entry)) thread) × (r .length ≡ question.list-many (now (image .entry)) thread) ⌝ }
+{
+    let number = retired_number(image, thread);
+    if number != 0 {
+        return Part {
+            number: number,
+            from: 0,
+            length: 0,
+        };
+    }
+    let l = image::layout::layout_of(image);
+    let t = thread as usize;
+    let from = places::entry_at(l, t, 0) as u32;
+    let length = words::list_length(image, l, t);
+    Part {
+        number: number,
+        from: from,
+        length: length,
+    }
+}
+
 // The list question: the part of the image that holds the thread's entries, as many as its length; empty where refused.
 pub fn retired(image: &[u32], thread: u32) -> &[u32]
     ensures { λ r. ⌜ (now r ≡ question.list-part (now (image .entry)) thread) × (ptr r .0 ≡ ptr (image .entry) .0) × (ptr r .1 ≡ ptr (image .entry) .1 + question.list-from (now (image .entry)) thread * 4) ⌝ }
 {
-    if retired_number(image, thread) != 0 {
-        return &image[0..0];
-    }
-    let l = image::layout::layout_of(image);
-    let t = thread as usize;
-    let from = places::entry_at(l, t, 0);
-    let end = from + words::list_length(image, l, t) as usize;
+    let part = retired_at(image, thread);
+    let from = part.from as usize;
+    let end = from + part.length as usize;
     &image[from..end]
 }

@@ -14,6 +14,7 @@ pub mod Kept
 pub mod Lowest
 pub mod Branches
 pub mod Checked
+pub mod Programs
 pub mod EqualReplies
 pub mod CasesPass
 pub mod ShutOut

@@ -1,0 +1,66 @@
+-- Both buffers have room for what the count says.
+use borrow.Author.Needs.{needs}
+use Rattle.vectors.proofs.Laws.{part-long}
+use Rattle.vectors.proofs.setups.case.Statement.{statement}
+use Rattle.vectors.proofs.setups.case.Tie as tie
+
+slice-aggregate-words : tie.Need-slice-aggregate-words
+slice-aggregate-words c = search needs
+
+words-requires : tie.Need-words-requires
+words-requires c κs = search needs
+
+returns : tie.Need-returns
+returns c = search needs
+
+array-read-wide : tie.Need-array-read-wide
+array-read-wide c = search needs
+
+wide-requires : tie.Need-wide-requires
+wide-requires c κs = search needs
+
+returns-2 : tie.Need-returns-2
+returns-2 c = search needs
+
+blank-requires : tie.Need-blank-requires
+blank-requires c κs = search needs
+
+blank-requires-2 : tie.Need-blank-requires-2
+blank-requires-2 c κs = search needs
+
+array-borrow-prefix-given : tie.Need-array-borrow-prefix-given
+array-borrow-prefix-given c = search needs
+
+slice-aggregate-on : tie.Need-slice-aggregate-on
+slice-aggregate-on c = part-long _ (c .before .before .before .blank .result) (search needs)
+
+array-borrow-prefix-expected : tie.Need-array-borrow-prefix-expected
+array-borrow-prefix-expected c = search needs
+
+slice-aggregate-on-2 : tie.Need-slice-aggregate-on-2
+slice-aggregate-on-2 c = part-long _ (c .before .before .before .blank2 .result) (search needs)
+
+on-requires : tie.Need-on-requires
+on-requires c κs = search needs
+
+returns-3 : tie.Need-returns-3
+returns-3 c = search needs
+
+pub case-spec : {M : Type 1} → statement M
+case-spec =
+    tie.close
+    (tie.spec
+    slice-aggregate-words
+    words-requires
+    returns
+    array-read-wide
+    wide-requires
+    returns-2
+    blank-requires
+    blank-requires-2
+    array-borrow-prefix-given
+    slice-aggregate-on
+    array-borrow-prefix-expected
+    slice-aggregate-on-2
+    on-requires
+    returns-3)

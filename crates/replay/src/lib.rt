@@ -1,12 +1,12 @@
 // The schedule program's work: bytes in, bytes out.
-pub mod reader;
-pub mod run;
+mod reader;
+mod run;
 pub mod schedule;
-pub mod text;
+mod text;
 
 ghost use mathlib.Core.Path.{_≡_};
 ghost use mathlib.Core.Bool.{cond};
-ghost use lib.ListN.{length, take};
+ghost use lib.ListN.{length};
 ghost use lib.Dec.{leb};
 ghost use Rattle.rules.specs.Program as program;
 ghost use Rattle.replay.specs.Put.{Put};

@@ -1,9 +1,8 @@
 // The reader: it walks a schedule from step to step and remembers its place. The work is in schedule, by slice and number.
 ghost use mathlib.Core.Path.{_≡_};
-ghost use Prim.Native.Nat.{_+_, _*_, _≤_};
-ghost use lib.ListN.{length};
+ghost use Prim.Native.Nat.{_+_};
 ghost use Rattle.rules.specs.Program as program;
-ghost use Rattle.replay.specs.Five.{step-in};
+ghost use Rattle.replay.specs.Five.{step-in, Inside};
 use super::schedule::Five;
 use super::schedule::step_at;
 
@@ -21,7 +20,7 @@ pub fn new<'a>(schedule: &'a [u8], at: usize) -> Reader<'a>
 
 // Reads the step at the reader's place, and moves on to the one behind it.
 pub fn next<'s, 'a>(r: &'s mut Reader<'a>) -> Five
-    requires { ⌜ (program.before-steps + now r .at * program.step-words + program.step-words) * 4 ≤ length (now (now r .schedule)) ⌝ }
+    requires { ⌜ Inside (now (now r .schedule)) (now r .at) ⌝ }
     ensures { λ f. ⌜ (step-in f ≡ program.given-step (now (now (r .entry) .schedule)) (now (r .entry) .at)) × (now (r .exit) .schedule ≡ now (r .entry) .schedule) × (now (r .exit) .at ≡ now (r .entry) .at + 1) ⌝ }
 {
     let i = r.at;
@@ -31,7 +30,7 @@ pub fn next<'s, 'a>(r: &'s mut Reader<'a>) -> Five
 
 // Step i, by a reader: whoever calls this needs no walk.
 pub fn read_step(input: &[u8], i: usize) -> Five
-    requires { ⌜ (program.before-steps + i * program.step-words + program.step-words) * 4 ≤ length (now input) ⌝ }
+    requires { ⌜ Inside (now input) i ⌝ }
     ensures { λ f. ⌜ step-in f ≡ program.given-step (now (input .entry)) i ⌝ }
 {
     let mut r = new(input, i);

@@ -7,6 +7,7 @@ ghost use Rattle.rules.specs.Image as whole;
 ghost use Rattle.rules.specs.SetUp as rule;
 ghost use Rattle.rules.specs.Program as program;
 ghost use Rattle.rules.proofs.Programs.{Says};
+ghost use Rattle.replay.specs.Five.{Inside};
 ghost use Rattle.replay.specs.Put.{Put};
 ghost use Rattle.replay.specs.Tally.{Low, counted-in, Turned, Ran};
 use super::reader;
@@ -43,7 +44,7 @@ fn counted(t: Tally, p: usize, op: u32, number: u32, value: u32) -> Tally
 
 // Step i: it is read, carried out, and its line written.
 fn turn(input: &[u8], image: &mut [u32], out: &mut [u8], i: usize, t: Tally) -> Tally
-    requires { ⌜ (i < program.most-steps) × ((program.before-steps + i * program.step-words + program.step-words) * 4 ≤ length (now input)) × (t .at + 44 ≤ length (now out)) × Low t ⌝ }
+    requires { ⌜ (i < program.most-steps) × Inside (now input) i × (t .at + 44 ≤ length (now out)) × Low t ⌝ }
     ensures { λ r. ⌜ Turned i (program.given-step (now (input .entry)) i) (now (image .entry)) (now (image .exit)) (now (out .entry)) (now (out .exit)) t r ⌝ }
 {
     let s = reader::read_step(input, i);

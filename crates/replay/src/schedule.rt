@@ -3,7 +3,7 @@ ghost use mathlib.Core.Path.{_≡_};
 ghost use Prim.Native.Nat.{_+_, _*_, _<_, _≤_};
 ghost use lib.ListN.{length};
 ghost use Rattle.rules.specs.Program as program;
-ghost use Rattle.replay.specs.Five.{step-in};
+ghost use Rattle.replay.specs.Five.{step-in, Inside};
 use image::layout;
 use image::layout::wide;
 use rules::Settings;
@@ -88,7 +88,7 @@ pub fn is_schedule(input: &[u8]) -> bool
 
 // Step i of the schedule.
 pub fn step_at(input: &[u8], i: usize) -> Five
-    requires { ⌜ (program.before-steps + i * program.step-words + program.step-words) * 4 ≤ length (now input) ⌝ }
+    requires { ⌜ Inside (now input) i ⌝ }
     ensures { λ r. ⌜ step-in r ≡ program.given-step (now (input .entry)) i ⌝ }
 {
     let w = BEFORE + i * STEP;

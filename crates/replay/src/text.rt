@@ -1,7 +1,6 @@
 // The output's text: each function puts its bytes into a buffer from a place on, and says where they end.
-ghost use mathlib.Core.Path.{_≡_};
 ghost use mathlib.Core.List.{[], _∷_, _++_};
-ghost use Prim.Native.Nat.{_+_, _*_, _<_, _≤_};
+ghost use Prim.Native.Nat.{_+_, _≤_};
 ghost use lib.ListN.{length};
 ghost use Rattle.rules.specs.Program as program;
 ghost use Rattle.replay.specs.Put.{Put, line-of};

@@ -1,5 +1,5 @@
 -- Laws of the schedule program: digits, lines and sums; and how long its output can be.
-use mathlib.Core.Path.{_≡_, refl, sym, ap, _∙_}
+use mathlib.Core.Path.{_≡_, refl, ap}
 use mathlib.Core.Bool.{Bool, true, false, cond, not, _&&_}
 use mathlib.Core.List.{List, [], _∷_, _++_}
 use Prim.Native.Nat.{ℕ, zero, suc, _+_, _*_, _-_, _/_, _%_, _^_, _≤_, _<_}
@@ -18,7 +18,7 @@ use Rattle.rules.specs.Phases.{#advance}
 use Rattle.rules.specs.Replies.{Step}
 use Rattle.rules.specs.Step.{step}
 use Rattle.rules.specs.Schedules.{outcomes}
-use Rattle.rules.specs.Program.{most-steps, step-words, before-steps, word, given-settings, given-count, given-step, given-steps, steps-from, is-schedule, ascii, digits, decimal, line, lines, accepted, freed, refusals-among, total, report, output, longest, shown}
+use Rattle.rules.specs.Program.{most-steps, step-words, before-steps, word, given-settings, given-count, given-step, given-steps, steps-from, is-schedule, ascii, digits, decimal, line, lines, accepted, freed, refusals-among, total, report, output, longest}
 use Rattle.rules.proofs.Laws.{five, Either, holds, fails, either}
 
 -- digits: as many as are asked for at most, one at least

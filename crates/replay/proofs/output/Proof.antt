@@ -1,3 +1,4 @@
+-- The report of a schedule, or the one line for any other input.
 use Rattle.rules.specs.Program.{ascii}
 use Rattle.replay.proofs.Shows.{says, schedule-out, other-out}
 use borrow.Author.Needs.{needs}

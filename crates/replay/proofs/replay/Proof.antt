@@ -1,3 +1,4 @@
+-- The text stands at the start of its array, and is shown from there.
 use mathlib.Core.Path.{refl, sym}
 use lib.Seq.{length-take-le}
 use Rattle.replay.proofs.Shows.{text-in, shown-text}

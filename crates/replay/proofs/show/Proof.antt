@@ -1,3 +1,4 @@
+-- The text fits, or nothing is written.
 use Rattle.replay.proofs.Shows.{show-all, show-none}
 use borrow.Author.Needs.{needs}
 use Rattle.replay.proofs.show.Statement.{statement}

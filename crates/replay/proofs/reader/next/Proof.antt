@@ -1,7 +1,7 @@
 -- A walk of the MIR by hand: the borrow is opened, the number is raised beside the slice, the slice is read out, and the borrow is closed; then `step_at` is called on the slice and the old number.
 -- The reader can be copied: one copy of what it owns goes back into the borrow, with the number's facts made anew, and of the other what the slice owns goes to the callee.
 use mathlib.Core.Path.{_≡_, refl}
-use Prim.Native.Nat.{ℕ, _≤_, _<_, _^_, _+_, _*_}
+use Prim.Native.Nat.{ℕ, _<_, _^_, _+_}
 use native.Mathlib.Omega.{arith}
 use mathlib.Core.List.{List, [], _∷_}
 use lib.ListN.{length}
@@ -44,10 +44,10 @@ use denote.Triple.Entry.{Vals, onEntry}
 use denote.Triple.Spec.{Meets, tripleOf}
 use denote.Triple.Table.{entered, cited}
 use denote.Triple.Walked.{says, needs, Stays, stay-ref, walkOf, goes-ref, Walks, ends-at, walked, walk-meets}
-use Rattle.rules.specs.Program.{before-steps, step-words, given-step}
+use Rattle.rules.specs.Program.{given-step}
 use Rattle.replay.specs.declared.reader.Reader.{Reader}
 use Rattle.replay.specs.declared.schedule.Five.{Five}
-use Rattle.replay.specs.Five.{step-in}
+use Rattle.replay.specs.Five.{step-in, Inside}
 use Rattle.replay.proofs.reader.Reader as T
 use Rattle.replay.proofs.reader.Reader.Laws as T′
 use Rattle.replay.proofs.schedule.Five as F
@@ -74,10 +74,6 @@ behind = plain (λ κs. T.the-row (namedLft 2 1 tt κs))
 
 abbrev stayed : Stays (next.ended .signature .params) (next.ended .kept)
 stayed = (stay-ref (0 ∷ []) tt behind, tt)
-
--- a step stands whole in the schedule
-abbrev Inside : List ℕ → ℕ → Type 0
-Inside I i = (before-steps + i * step-words + step-words) * 4 ≤ length I
 
 module _ {M : Type 1} (𝓤 : URA M) (H : Heap 𝓤) (A : Atoms 𝓤) (mem : Memory → SProp 𝓤) (run : Routine → Fun 𝓤) where
   -- the contract that the proof cites

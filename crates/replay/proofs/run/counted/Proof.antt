@@ -1,3 +1,4 @@
+-- Each sum grows by the bit that the definition adds.
 use Rattle.replay.specs.Tally.{counted-in}
 use borrow.Author.Needs.{needs}
 use Rattle.replay.proofs.run.counted.Statement.{statement}

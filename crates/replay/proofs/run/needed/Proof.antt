@@ -1,3 +1,4 @@
+-- Legal settings need as many words as they give.
 use Rattle.replay.proofs.Runs as run
 use borrow.Author.Needs.{needs}
 use Rattle.replay.proofs.run.needed.Statement.{statement}

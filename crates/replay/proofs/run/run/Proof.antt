@@ -1,3 +1,4 @@
+-- The header, the lines and the total, one behind the other.
 use Rattle.rules.specs.Program.{ascii}
 use Rattle.replay.proofs.Runs as run
 use borrow.Author.Needs.{needs}

@@ -1,3 +1,4 @@
+-- No legal settings need more words than the largest image has.
 use mathlib.Core.Path.{sym, _∙_}
 use native.Mathlib.Omega.{arith}
 use lib.Seq.{length-take-le}

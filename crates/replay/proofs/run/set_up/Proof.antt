@@ -1,3 +1,4 @@
+-- Legal settings and an image of their length: set-up writes the fresh image.
 use Rattle.replay.proofs.Runs as run
 use borrow.Author.Needs.{needs}
 use Rattle.replay.proofs.run.set_up.Statement.{statement}

@@ -1,3 +1,4 @@
+-- The loop's invariant: what is still to come makes up what all steps give. The measure is how many steps are left.
 use mathlib.Core.Path.{_≡_, refl}
 use Prim.Native.Nat.{_-_}
 use native.Mathlib.Omega.{arith}

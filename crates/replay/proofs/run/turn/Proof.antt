@@ -1,3 +1,4 @@
+-- The step as it was read, its reply, its line and its count.
 use Rattle.replay.proofs.Runs.{turned}
 use borrow.Author.Needs.{needs}
 use Rattle.replay.proofs.run.turn.Statement.{statement}

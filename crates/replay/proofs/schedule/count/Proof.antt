@@ -1,3 +1,4 @@
+-- The word behind the settings.
 use Rattle.rules.specs.Program.{given-count}
 use borrow.Author.Needs.{needs}
 use Rattle.replay.proofs.schedule.count.Statement.{statement}

@@ -1,3 +1,4 @@
+-- Too short, too many steps, or decided by both counts, the length and the settings.
 use native.Mathlib.Omega.{arith}
 use Rattle.replay.proofs.Words.{too-short, too-many, decided}
 use borrow.Author.Needs.{needs}

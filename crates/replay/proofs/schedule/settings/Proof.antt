@@ -1,3 +1,4 @@
+-- The words behind the first count, each as a number.
 use Rattle.rules.specs.Program.{given-settings}
 use borrow.Author.Needs.{needs}
 use Rattle.replay.proofs.schedule.settings.Statement.{statement}

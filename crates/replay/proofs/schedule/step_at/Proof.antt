@@ -1,3 +1,4 @@
+-- The five words of the step.
 use Rattle.rules.specs.Program.{given-step}
 use borrow.Author.Needs.{needs}
 use Rattle.replay.proofs.schedule.step_at.Statement.{statement}

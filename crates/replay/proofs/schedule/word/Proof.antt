@@ -1,3 +1,4 @@
+-- The four bytes, each a number below 256, as the definition adds them up.
 use Rattle.rules.specs.Program.{word}
 use borrow.Author.Needs.{needs}
 use Rattle.replay.proofs.schedule.word.Statement.{statement}

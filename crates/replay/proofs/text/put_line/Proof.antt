@@ -1,3 +1,4 @@
+-- Four numbers, each with the byte that ends it.
 use Rattle.replay.proofs.Numbers.{put-four}
 use borrow.Author.Needs.{needs}
 use Rattle.replay.proofs.text.put_line.Statement.{statement}

@@ -1,3 +1,4 @@
+-- The name, and the digits behind it.
 use Rattle.replay.proofs.Numbers.{named-room, put-named}
 use borrow.Author.Needs.{needs}
 use Rattle.replay.proofs.text.put_named.Statement.{statement}

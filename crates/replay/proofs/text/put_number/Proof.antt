@@ -1,3 +1,4 @@
+-- The number's digits, and one byte more.
 use native.Mathlib.Omega.{arith}
 use Rattle.replay.proofs.Numbers.{number-room, number-in, put-ended}
 use borrow.Author.Needs.{needs}

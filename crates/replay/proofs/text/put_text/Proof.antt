@@ -1,3 +1,4 @@
+-- The loop's invariant: the bytes passed are put. The measure is how many are left.
 use mathlib.Core.Path.{_≡_}
 use Prim.Native.Nat.{_+_, _-_, _≤_}
 use native.Mathlib.Omega.{arith}

@@ -1,3 +1,4 @@
+-- Three names with their numbers, and the end of the line.
 use Rattle.rules.specs.Program.{ascii}
 use Rattle.replay.proofs.Numbers.{put-three}
 use borrow.Author.Needs.{needs}

@@ -1,4 +1,6 @@
 // The cases of document 01 that are not marked (P), by name: each is run and compared.
+#![tactic(auto)]
+
 mod refusals;
 mod replies;
 

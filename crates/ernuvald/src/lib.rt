@@ -1,4 +1,6 @@
 // The machine for C, C++ and Rust: include/ernuvald.h declares these functions. Any image is answered: any length, no words at all, any content.
+#![tactic(auto)]
+
 ghost use Rattle.std.specs.Prelude.{◌≡◌};
 ghost use Rattle.rules.specs.Tests.{bit};
 ghost use Rattle.rules.specs.Settings.{settings_of};
@@ -11,7 +13,7 @@ ghost use Rattle.rules.specs.ListQuestion.{list_number, list_from, list_many};
 
 // What a step answers.
 #[repr(C)]
-#[derive(Drop)]
+#[derive(Clone, Copy)]
 pub struct Reply {
     pub number: u32,
     pub value: u32,
@@ -19,7 +21,7 @@ pub struct Reply {
 
 // What the list question answers: its number, and where the part begins and how long it is, in words.
 #[repr(C)]
-#[derive(Drop)]
+#[derive(Clone, Copy)]
 pub struct Part {
     pub number: u32,
     pub from: u32,

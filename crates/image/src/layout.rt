@@ -11,7 +11,7 @@ ghost use Rattle.image.specs.Fits.{Fine, Fits, At, own};
 use rules::Settings;
 
 // The settings, the list room, and for each section how many words stand before it; last, how many the image has.
-#[derive(Drop)]
+#[derive(Clone, Copy)]
 pub struct Layout {
     pub settings: Settings,
     pub room: usize,

@@ -1,4 +1,6 @@
 // The image: its layout, whether it is damaged, and its set-up.
+#![tactic(auto)]
+
 pub mod check;
 pub mod fresh;
 pub mod layout;

@@ -1,4 +1,6 @@
 // The machine: the step, and the question for one thread's retire list.
+#![tactic(auto)]
+
 pub mod advance;
 pub mod operations;
 pub mod places;
@@ -38,7 +40,7 @@ pub fn retired_number(image: &[u32], thread: u32) -> u32
 }
 
 // The list question's number, where the part that it hands back begins, and how many words that has: 0 and 0 where refused.
-#[derive(Drop)]
+#[derive(Clone, Copy)]
 pub struct Part {
     pub number: u32,
     pub from: u32,

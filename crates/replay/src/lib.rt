@@ -1,4 +1,6 @@
 // The schedule program's work: bytes in, bytes out.
+#![tactic(auto)]
+
 mod reader;
 mod run;
 pub mod schedule;
@@ -9,7 +11,7 @@ ghost use Rattle.rules.specs.Program as program;
 ghost use Rattle.replay.specs.Put.{Put};
 
 // All was written, and how many bytes; or the buffer is too short, and nothing was.
-#[derive(Drop)]
+#[derive(Clone, Copy)]
 pub enum Written {
     All(usize),
     TooShort,

@@ -6,7 +6,7 @@ ghost use Rattle.replay.specs.Five.{step_in, Inside};
 use super::schedule::{Five, step_at};
 
 // A place in a schedule: the number of the step that is read next.
-#[derive(Drop)]
+#[derive(Clone, Copy)]
 pub struct Reader<'a> {
     pub schedule: &'a [u8],
     pub at: usize,

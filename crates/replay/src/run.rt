@@ -13,7 +13,7 @@ use super::schedule::word;
 use super::{reader, schedule, text};
 
 // Where the text ends so far, and the sums of the total.
-#[derive(Drop)]
+#[derive(Clone, Copy)]
 pub struct Tally {
     pub at: usize,
     pub accepted: u32,

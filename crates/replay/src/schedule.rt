@@ -19,7 +19,7 @@ const STEP: usize = 5;
 const MOST: usize = 1000;
 
 // A step: five words.
-#[derive(Drop)]
+#[derive(Clone, Copy)]
 pub struct Five {
     pub thread: u32,
     pub op: u32,

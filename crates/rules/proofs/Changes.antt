@@ -74,7 +74,7 @@ pub data CellTurn (m m' : State) (c : ℕ) : Type 0 where
 module _ {S : Settings} {m : State} {s : Step} {r : Answer} (mv : Move S m s r) where
   pub slot_turn : (x : ℕ) → SlotTurn S m (next m r) s x
   unfolding allocate swap load reserve to_idle check use_slot clear retire deliver onward collect ping scan freed_on
-  slot_turn x = elim mv [
+  slot_turn x = elim mv as (λ r _. SlotTurn S m (next m r) s x) [
     | allocates _ ↦ slot_same refl refl
     | swaps _ ↦ slot_same refl refl
     | loads _ ↦ slot_same refl refl
@@ -135,7 +135,7 @@ module _ {S : Settings} {m : State} {s : Step} {r : Answer} (mv : Move S m s r) 
 
   pub published_turn : {b x : ℕ} → Row S.slots b x → PublishedTurn S m (next m r) b x
   unfolding allocate swap load reserve to_idle check use_slot clear retire deliver onward collect ping scan freed_on
-  published_turn {b} {x} row = elim mv [
+  published_turn {b} {x} row = elim mv as (λ r _. PublishedTurn S m (next m r) b x) [
     | allocates _ ↦ quiet refl refl (λ h. h)
     | swaps _ ↦ quiet refl refl (λ h. h)
     | loads _ ↦ quiet refl refl (λ h. h)
@@ -163,7 +163,7 @@ module _ {S : Settings} {m : State} {s : Step} {r : Answer} (mv : Move S m s r) 
 
   pub status_turn : (p : ℕ) → StatusTurn S m (next m r) p
   unfolding allocate swap load reserve to_idle check use_slot clear retire deliver onward collect ping scan freed_on
-  status_turn p = elim mv [
+  status_turn p = elim mv as (λ r _. StatusTurn S m (next m r) p) [
     | allocates f ↦ elim (sep (lowest_free m S.records) p)
         [ same e q ↦ born (rw (← e) f.free) (rw q) | diff e q ↦ status_same (rw q) ]
     | swaps _ ↦ status_same refl
@@ -191,7 +191,7 @@ module _ {S : Settings} {m : State} {s : Step} {r : Answer} (mv : Move S m s r) 
 
   pub cell_turn : (c : ℕ) → CellTurn m (next m r) c
   unfolding allocate swap load reserve to_idle check use_slot clear retire deliver onward collect ping scan freed_on
-  cell_turn c = elim mv [
+  cell_turn c = elim mv as (λ r _. CellTurn m (next m r) c) [
     | allocates _ ↦ cell_same refl
     | swaps f ↦ elim (sep s.a c) [
       | diff n q ↦ cell_same (rw q)

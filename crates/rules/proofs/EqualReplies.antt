@@ -49,7 +49,7 @@ reply_said r r' n x = sym (replied r) ∙ rw (n, x) (replied r')
 
     replied : (r : Reply) → reply (number_of r) (value_of r) ≡ r
     replied (Done x) = refl
-    replied (Refused w) = elim w [ Damaged ↦ refl | NoSuchOperation ↦ refl | NoSuchThread ↦ refl | OperandBeyond ↦ refl | HandlerRunning ↦ refl | PhaseForbids ↦ refl | NoneFree ↦ refl | NotLive ↦ refl | CellNames ↦ refl | ListFull ↦ refl | NotHeld ↦ refl ]
+    replied (Refused w) = elim w as (λ w. reply (number_of (Refused w)) (value_of (Refused w)) ≡ Refused w) [ Damaged ↦ refl | NoSuchOperation ↦ refl | NoSuchThread ↦ refl | OperandBeyond ↦ refl | HandlerRunning ↦ refl | PhaseForbids ↦ refl | NoneFree ↦ refl | NotLive ↦ refl | CellNames ↦ refl | ListFull ↦ refl | NotHeld ↦ refl ]
 
 pub step_equal : (I : List ℕ) (s : Step) (r r' : Reply) {J J' : List ℕ} → outcome (number_of r) (value_of r) J ≡ step I s
     → outcome (number_of r') (value_of r') J' ≡ step I s → (r ≡ r') × (J ≡ J')

@@ -246,7 +246,7 @@ performs {S} {m} s h k = acts S m s.thread (h.threads s.thread k.thread) s.a s.b
 -- an accepted step's number is 0
 pub move_done : {S : Settings} {m : State} {s : Step} {r : Answer} → Move S m s r → r.number ≡ 0
 unfolding allocate swap load reserve check use_slot clear retire deliver collect ping scan
-move_done mv = elim mv [
+move_done mv = elim mv as (λ r _. r.number ≡ 0) [
   | allocates _ ↦ refl
   | swaps _ ↦ refl
   | loads _ ↦ refl
@@ -299,7 +299,7 @@ other_row {t} {a} n k o j (z ∷ zs) h m =
 
 pub rows_own : {S : Settings} {m : State} {s : Step} {r : Answer} → Move S m s r → AllOf s.thread r.writes
 unfolding allocate swap load reserve to_idle check use_slot clear retire deliver onward collect ping scan freed_on
-rows_own {S} {m} {s} mv = elim mv [
+rows_own {S} {m} {s} mv = elim mv as (λ r _. AllOf s.thread r.writes) [
   | allocates _ ↦ omega arith
   | swaps _ ↦ omega arith
   | loads _ ↦ omega arith

@@ -48,7 +48,7 @@ module _ (S : Settings) where
 
   pub fitting : (k : Kind) → Fitting k
   unfolding size sizes
-  fitting k = elim k [ Cell ↦ omega arith | Status ↦ omega arith | Private ↦ omega arith | Published ↦ omega arith | Held ↦ omega arith | Count ↦ omega arith | Phase ↦ omega arith | U' ↦ omega arith | V' ↦ omega arith | W' ↦ omega arith | Pending ↦ omega arith | Handler ↦ omega arith | Collected ↦ omega arith | Length ↦ omega arith | Entry ↦ omega arith | Scanned ↦ omega arith ]
+  fitting k = elim k as (λ k. Fitting k) [ Cell ↦ omega arith | Status ↦ omega arith | Private ↦ omega arith | Published ↦ omega arith | Held ↦ omega arith | Count ↦ omega arith | Phase ↦ omega arith | U' ↦ omega arith | V' ↦ omega arith | W' ↦ omega arith | Pending ↦ omega arith | Handler ↦ omega arith | Collected ↦ omega arith | Length ↦ omega arith | Entry ↦ omega arith | Scanned ↦ omega arith ]
 
   pub inside_section : (k : Kind) (i j : ℕ) → Valid S k i j → within S k i j < size S (lay S k).section
   unfolding within

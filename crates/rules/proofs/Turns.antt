@@ -142,7 +142,8 @@ taken_is i n k l = elim (sep (i + 1) n) [ same e q ↦ rw q (ends e refl refl re
 own_turn : {S : Settings} {m : State} {s : Step} {r : Answer} → Move S m s r
     → Turn S s r.value m (next m r) s.thread (eqb s.op #advance && not (eqb r.value 0))
 unfolding allocate swap load reserve to_idle check use_slot clear retire deliver onward collect ping scan seen freed_on
-own_turn {S} {m} {s} mv = let q : eqb s.thread s.thread ≡ true = eqb_self s.thread in elim mv [
+own_turn {S} {m} {s} mv = let q : eqb s.thread s.thread ≡ true = eqb_self s.thread in
+    elim mv as (λ r _. Turn S s r.value m (next m r) s.thread (eqb s.op #advance && not (eqb r.value 0))) [
   | allocates f ↦ rw f.op (still (omega arith))
   | swaps f ↦ rw f.op (still (omega arith))
   | loads f ↦ rw f.op (outside (record { before = omega arith; after = rw q (omega arith); list = omega arith; now = rw q (omega arith) }))

@@ -42,7 +42,7 @@ abbrev tagged : ℕ → Kind
 tagged n = get_or (Cell ∷ Status ∷ Private ∷ Published ∷ Held ∷ Count ∷ Phase ∷ U' ∷ V' ∷ W' ∷ Pending ∷ Handler ∷ Collected ∷ Length ∷ Entry ∷ Scanned ∷ []) n Cell
 
 untag : (k : Kind) → tagged (tag k) ≡ k
-untag k = elim k [ Cell ↦ refl | Status ↦ refl | Private ↦ refl | Published ↦ refl | Held ↦ refl | Count ↦ refl | Phase ↦ refl | U' ↦ refl | V' ↦ refl | W' ↦ refl | Pending ↦ refl | Handler ↦ refl | Collected ↦ refl | Length ↦ refl | Entry ↦ refl | Scanned ↦ refl ]
+untag k = elim k as (λ k. tagged (tag k) ≡ k) [ Cell ↦ refl | Status ↦ refl | Private ↦ refl | Published ↦ refl | Held ↦ refl | Count ↦ refl | Phase ↦ refl | U' ↦ refl | V' ↦ refl | W' ↦ refl | Pending ↦ refl | Handler ↦ refl | Collected ↦ refl | Length ↦ refl | Entry ↦ refl | Scanned ↦ refl ]
 
 same_tag : (k k' : Kind) → tag k ≡ tag k' → k ≡ k'
 same_tag k k' e = sym (untag k) ∙ ap tagged e ∙ untag k'
@@ -110,7 +110,7 @@ module _ (S : Settings) where
     number : (j : ℕ) → j < (lay S k).span → tag k ≡ min (before (lay S k).section + ((lay S k).offset + j)) (before (suc (lay S k).section) - 1)
 
   told : (k : Kind) → Told k
-  told k = elim k [ Cell ↦ omega arith | Status ↦ omega arith | Private ↦ omega arith | Published ↦ omega arith | Held ↦ omega arith | Count ↦ omega arith | Phase ↦ omega arith | U' ↦ omega arith | V' ↦ omega arith | W' ↦ omega arith | Pending ↦ omega arith | Handler ↦ omega arith | Collected ↦ omega arith | Length ↦ omega arith | Entry ↦ omega arith | Scanned ↦ omega arith ]
+  told k = elim k as (λ k. Told k) [ Cell ↦ omega arith | Status ↦ omega arith | Private ↦ omega arith | Published ↦ omega arith | Held ↦ omega arith | Count ↦ omega arith | Phase ↦ omega arith | U' ↦ omega arith | V' ↦ omega arith | W' ↦ omega arith | Pending ↦ omega arith | Handler ↦ omega arith | Collected ↦ omega arith | Length ↦ omega arith | Entry ↦ omega arith | Scanned ↦ omega arith ]
 
   -- an index is in one section, with its count or with its words
   abbrev In : ℕ → ℕ → Type 0

@@ -1,9 +1,11 @@
 // What the machine is told and what it answers. The rules themselves are definitions, in specs/.
+#![tactic(auto)]
+
 ghost use Rattle.std.specs.Prelude.{◌≡◌};
 ghost use Rattle.rules.specs.Replies.{number_of, value_of};
 
 // Document 01, Settings: T, H, C, R, F and S.
-#[derive(Drop)]
+#[derive(Clone, Copy)]
 pub struct Settings {
     pub threads: usize,
     pub slots: usize,
@@ -14,7 +16,7 @@ pub struct Settings {
 }
 
 // Why a step is refused: document 01, Replies by number, 1 to 11.
-#[derive(Drop)]
+#[derive(Clone, Copy)]
 pub enum Why {
     Damaged,
     NoSuchOperation,
@@ -30,7 +32,7 @@ pub enum Why {
 }
 
 // What a step answers: done, with its value, or refused.
-#[derive(Drop)]
+#[derive(Clone, Copy)]
 pub enum Reply {
     Done(u32),
     Refused(Why),

@@ -1,4 +1,6 @@
 // The schedule program: a schedule on standard input, its replies on standard output.
+#![tactic(auto)]
+
 use libc::{STDIN_FILENO, STDOUT_FILENO};
 use replay::Written;
 

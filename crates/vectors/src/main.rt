@@ -1,4 +1,6 @@
 // Runs outside test vectors through the public functions and compares: four files, from this folder or named by the arguments.
+#![tactic(auto)]
+
 mod lists;
 mod read;
 mod say;
@@ -10,7 +12,7 @@ mod tell;
 use image::layout::wide;
 
 // What a file holds.
-#[derive(Drop)]
+#[derive(Clone, Copy)]
 enum Kind {
     Steps,
     SetUps,
@@ -19,7 +21,7 @@ enum Kind {
 }
 
 // How a case ends: it is as expected, or differs, or the file ends in it, or it has no room.
-#[derive(Drop)]
+#[derive(Clone, Copy)]
 enum Outcome {
     Same,
     Differs,
@@ -28,7 +30,7 @@ enum Outcome {
 }
 
 // How a file's cases end: all were run, and so many differ; or at this case the file ends, or this one has no room.
-#[derive(Drop)]
+#[derive(Clone, Copy)]
 enum Outcomes {
     All(usize),
     Cut(usize),

@@ -4,24 +4,21 @@
 mod refusals;
 mod replies;
 
-use libc::STDOUT_FILENO;
+use std::io;
 
-fn say(name: &[u8], passed: bool) {
-    io::write_all(STDOUT_FILENO, name);
-    if passed {
-        io::write_all(STDOUT_FILENO, b": passed\n");
-    } else {
-        io::write_all(STDOUT_FILENO, b": FAILED\n");
-    }
+fn say(rt: &impl Print, name: &str, passed: bool) -> io::Result<()> {
+    let outcome = if passed { "passed" } else { "FAILED" };
+    println!(rt; "{name}: {outcome}")
 }
 
-fn main() {
+fn main(rt: HostRuntime) -> io::Result<()> {
     say(
-        b"F=2: the first retire stays idle, the second starts a reclaim",
+        &rt,
+        "F=2: the first retire stays idle, the second starts a reclaim",
         replies::second_retire(),
-    );
-    say(b"T=17: 12", refusals::seventeen_threads());
-    say(b"one word too few: 13", refusals::one_too_few());
-    say(b"empty image: 1", refusals::empty_image());
-    say(b"the printed example", replies::printed());
+    )?;
+    say(&rt, "T=17: 12", refusals::seventeen_threads())?;
+    say(&rt, "one word too few: 13", refusals::one_too_few())?;
+    say(&rt, "empty image: 1", refusals::empty_image())?;
+    say(&rt, "the printed example", replies::printed())
 }

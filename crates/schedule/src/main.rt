@@ -1,17 +1,36 @@
 // The schedule program: a schedule on standard input, its replies on standard output.
 #![tactic(auto)]
 
-use libc::{STDIN_FILENO, STDOUT_FILENO};
+ghost use Rattle.std.specs.Prelude.{◌≤◌, length, IfOk};
+
 use replay::Written;
+use std::io;
+use std::io::{Read, Write};
+
+// Reads until the buffer is full or the input ends; how many bytes it put at the buffer's start.
+fn read_full(input: &mut impl Read, buffer: &mut [u8]) -> io::Result<usize>
+    ensures { IfOk result (λ n. n ≤ length buffer.new) }
+{
+    let mut n = 0;
+    while n < buffer.len() {
+        let more = input.read(&mut buffer[n..])?;
+        if more == 0 {
+            break;
+        }
+        n += more;
+    }
+    Ok(n)
+}
 
 // The longest schedule has 20,032 bytes, so that an input that fills this buffer is none.
-fn main() {
+fn main(rt: HostRuntime) -> io::Result<()> {
     let mut input = [0u8; 20033];
-    let n = io::read_full(STDIN_FILENO, &mut input);
+    let n = read_full(&mut rt.stdin(), &mut input)?;
     let mut out = [0u8; 44075];
     if let Written::All(k) = replay::replay(&input[..n], &mut out) {
         if k <= 44075 {
-            io::write_all(STDOUT_FILENO, &out[..k]);
+            rt.stdout().write_all(&out[..k])?;
         }
     }
+    Ok(())
 }

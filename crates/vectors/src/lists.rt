@@ -2,59 +2,79 @@
 use super::read::ROOM;
 use super::{Outcome, read, tell};
 use image::layout::wide;
+use std::io;
+use std::io::Read;
 
 // Compares the number, how many entries are handed back, and each of them.
 fn answered(
-    fd: i32,
-    name: &[u8],
+    rt: &impl Print,
+    file: &mut impl Read,
+    name: &str,
     i: usize,
     image: &[u32],
     thread: u32,
     number: u32,
     entries: &mut [u32],
-) -> Outcome {
-    if !read::words(fd, entries) {
-        return Outcome::Cut;
+) -> io::Result<Outcome> {
+    if !read::words(file, entries)? {
+        return Ok(Outcome::Cut);
     }
     let a = tell::number(
+        rt,
         false,
         name,
         i,
-        b"number",
+        "number",
         wide(machine::retired_number(image, thread)),
         wide(number),
-    );
+    )?;
     let part = machine::retired(image, thread);
-    let b = tell::number(a, name, i, b"length", part.len(), entries.len());
-    tell::end(tell::words(b, name, i, part, entries))
+    let b = tell::number(rt, a, name, i, "length", part.len(), entries.len())?;
+    let c = tell::words(rt, b, name, i, part, entries)?;
+    tell::end(rt, c)
 }
 
 // A case whose image has room.
-fn on(fd: i32, name: &[u8], i: usize, image: &mut [u32]) -> Outcome {
+fn on(
+    rt: &impl Print,
+    file: &mut impl Read,
+    name: &str,
+    i: usize,
+    image: &mut [u32],
+) -> io::Result<Outcome> {
     let mut asked = [0u32; 3];
-    if !read::words(fd, image) {
-        return Outcome::Cut;
+    if !read::words(file, image)? {
+        return Ok(Outcome::Cut);
     }
-    if !read::words(fd, &mut asked) {
-        return Outcome::Cut;
+    if !read::words(file, &mut asked)? {
+        return Ok(Outcome::Cut);
     }
     let n = wide(asked[2]);
     if ROOM < n {
-        return Outcome::TooLarge;
+        return Ok(Outcome::TooLarge);
     }
     let mut entries = read::blank();
-    answered(fd, name, i, image, asked[0], asked[1], &mut entries[..n])
+    answered(
+        rt,
+        file,
+        name,
+        i,
+        image,
+        asked[0],
+        asked[1],
+        &mut entries[..n],
+    )
 }
 
-pub fn case(fd: i32, name: &[u8], i: usize) -> Outcome {
+pub fn case(rt: &impl Print, file: &mut impl Read, name: &str, i: usize) -> io::Result<Outcome> {
     let mut head = [0u32; 1];
-    if !read::words(fd, &mut head) {
-        return Outcome::Cut;
+    if !read::words(file, &mut head)? {
+        return Ok(Outcome::Cut);
     }
     let n = wide(head[0]);
     if ROOM < n {
-        return Outcome::TooLarge;
+        return Ok(Outcome::TooLarge);
     }
     let mut image = read::blank();
-    on(fd, name, i, &mut image[..n])
+    on(rt, file, name, i, &mut image[..n])
 }

@@ -10,6 +10,9 @@ mod steps;
 mod tell;
 
 use image::layout::wide;
+use std::io::Read;
+use std::rt::Files;
+use std::{env, fs, io};
 
 // What a file holds.
 #[derive(Clone, Copy)]
@@ -38,91 +41,105 @@ enum Outcomes {
 }
 
 // Case i of a file.
-fn case(kind: Kind, fd: i32, name: &[u8], i: usize) -> Outcome {
+fn case(
+    rt: &impl Print,
+    kind: Kind,
+    file: &mut impl Read,
+    name: &str,
+    i: usize,
+) -> io::Result<Outcome> {
     match kind {
-        Kind::Steps => steps::case(fd, name, i),
-        Kind::SetUps => setups::case(fd, name, i),
-        Kind::Lists => lists::case(fd, name, i),
-        Kind::Schedules => schedules::case(fd, name, i),
+        Kind::Steps => steps::case(rt, file, name, i),
+        Kind::SetUps => setups::case(rt, file, name, i),
+        Kind::Lists => lists::case(rt, file, name, i),
+        Kind::Schedules => schedules::case(rt, file, name, i),
     }
 }
 
 // The n cases of a file.
-fn cases(kind: Kind, fd: i32, name: &[u8], n: usize) -> Outcomes {
+fn cases(
+    rt: &impl Print,
+    kind: Kind,
+    file: &mut impl Read,
+    name: &str,
+    n: usize,
+) -> io::Result<Outcomes> {
     let mut differ = 0;
-    let mut i = 0;
-    while i < n {
-        match case(kind, fd, name, i) {
+    for i in 0..n {
+        match case(rt, kind, file, name, i)? {
             Outcome::Same => {}
             Outcome::Differs => {
                 differ += 1;
             }
             Outcome::Cut => {
-                return Outcomes::Cut(i);
+                return Ok(Outcomes::Cut(i));
             }
             Outcome::TooLarge => {
-                return Outcomes::TooLarge(i);
+                return Ok(Outcomes::TooLarge(i));
             }
         }
-        i += 1;
     }
-    Outcomes::All(differ)
+    Ok(Outcomes::All(differ))
 }
 
 // A file's last line, once its cases are run.
-fn report(fd: i32, name: &[u8], n: usize, outcomes: Outcomes) {
+fn report(
+    rt: &impl Print,
+    file: &mut impl Read,
+    name: &str,
+    n: usize,
+    outcomes: Outcomes,
+) -> io::Result<()> {
     match outcomes {
         Outcomes::All(differ) => {
-            if read::is_end(fd) {
-                say::total(name, n, differ);
+            if read::is_end(file)? {
+                say::total(rt, name, n, differ)
             } else {
-                say::line(name, b": longer than its counts say");
+                say::line(rt, name, ": longer than its counts say")
             }
         }
-        Outcomes::Cut(i) => {
-            say::numbered_line(name, b": cut short in case ", i, b"");
-        }
-        Outcomes::TooLarge(i) => {
-            say::numbered_line(name, b" case ", i, b": too large");
-        }
+        Outcomes::Cut(i) => say::numbered_line(rt, name, ": cut short in case ", i, ""),
+        Outcomes::TooLarge(i) => say::numbered_line(rt, name, " case ", i, ": too large"),
     }
 }
 
 // All cases of an open file.
-fn opened(kind: Kind, fd: i32, name: &[u8]) {
+fn opened(rt: &impl Print, kind: Kind, file: &mut impl Read, name: &str) -> io::Result<()> {
     let mut count = [0u32; 1];
-    if read::words(fd, &mut count) {
+    if read::words(file, &mut count)? {
         let n = wide(count[0]);
-        report(fd, name, n, cases(kind, fd, name, n));
+        let outcomes = cases(rt, kind, file, name, n)?;
+        report(rt, file, name, n, outcomes)
     } else {
-        say::line(name, b": cut short in its count");
+        say::line(rt, name, ": cut short in its count")
     }
 }
 
-fn file(kind: Kind, name: &[u8]) {
-    let fd = os::open_read(name);
-    if fd < 0 {
-        say::line(name, b": missing");
-    } else {
-        opened(kind, fd, name);
-        libc::close(fd);
+fn file(rt: &(impl Files + Print), kind: Kind, name: &str) -> io::Result<()> {
+    match fs::open(rt, name) {
+        Ok(mut file) => opened(rt, kind, &mut file, name),
+        Err(_) => say::line(rt, name, ": missing"),
     }
 }
 
-// The file that argument k names, or the usual one where there are fewer arguments.
-fn named(kind: Kind, k: usize, usual: &[u8]) {
-    if os::arg_count() <= k {
-        file(kind, usual);
-    } else {
-        let mut name = io::buffer();
-        let n = os::arg(k, &mut name);
-        file(kind, &name[..n]);
+// The file that an argument names, or the usual one where there are fewer arguments.
+fn named(
+    rt: &(impl Files + Print),
+    kind: Kind,
+    name: Option<String>,
+    usual: &str,
+) -> io::Result<()> {
+    match name {
+        Some(name) => file(rt, kind, name.as_str()),
+        None => file(rt, kind, usual),
     }
 }
 
-fn main() {
-    named(Kind::Steps, 1, b"steps.words");
-    named(Kind::SetUps, 2, b"setups.words");
-    named(Kind::Lists, 3, b"lists.words");
-    named(Kind::Schedules, 4, b"schedules.bundle");
+fn main(rt: HostRuntime) -> io::Result<()> {
+    let mut names = env::args(&rt)?;
+    let _program = names.next();
+    named(&rt, Kind::Steps, names.next(), "steps.words")?;
+    named(&rt, Kind::SetUps, names.next(), "setups.words")?;
+    named(&rt, Kind::Lists, names.next(), "lists.words")?;
+    named(&rt, Kind::Schedules, names.next(), "schedules.bundle")
 }

@@ -3,6 +3,8 @@ ghost use Rattle.std.specs.Prelude.{◌≡◌, ◌*◌, ◌≤◌, length};
 ghost use Rattle.vectors.specs.Compared.{Words};
 
 use replay::schedule::word;
+use std::io;
+use std::io::{ErrorKind, Read};
 
 // The most words that a case's image has room for.
 pub const ROOM: usize = 8300;
@@ -15,8 +17,12 @@ pub fn blank() -> [u32; ROOM]
 }
 
 // Fills a part of memory; whether the file had enough bytes.
-pub fn bytes(fd: i32, out: &mut [u8]) -> bool {
-    io::read_full(fd, out) == out.len()
+pub fn bytes(file: &mut impl Read, out: &mut [u8]) -> io::Result<bool> {
+    match file.read_exact(out) {
+        Ok(()) => Ok(true),
+        Err(e) if e.kind() == ErrorKind::UnexpectedEof => Ok(false),
+        Err(e) => Err(e),
+    }
 }
 
 // Words from bytes, the lowest byte first.
@@ -24,34 +30,32 @@ fn from_bytes(bytes: &[u8], out: &mut [u32])
     requires { length out.old * 4 ≤ length bytes.now }
     ensures { (length out.new ≡ length out.old) × Words bytes.now out.new (length out.new) }
 {
-    let mut i = 0;
-    while i < out.len() {
+    for i in 0..out.len() {
         out[i] = word(bytes, i);
-        i += 1;
     }
 }
 
 // Fills words by way of as many bytes as they have; whether the file had enough.
-fn by_bytes(fd: i32, space: &mut [u8], out: &mut [u32]) -> bool
+fn by_bytes(file: &mut impl Read, space: &mut [u8], out: &mut [u32]) -> io::Result<bool>
     requires { length out.old * 4 ≤ length space.old }
 {
-    let all = bytes(fd, space);
+    let all = bytes(file, space)?;
     from_bytes(space, out);
-    all
+    Ok(all)
 }
 
 // Fills at most ROOM words; whether the file had enough.
-pub fn words(fd: i32, out: &mut [u32]) -> bool {
+pub fn words(file: &mut impl Read, out: &mut [u32]) -> io::Result<bool> {
     let n = out.len();
     if ROOM < n {
-        return false;
+        return Ok(false);
     }
-    let mut space = io::large_buffer();
-    by_bytes(fd, &mut space[..n * 4], out)
+    let mut space = [0u8; 65536];
+    by_bytes(file, &mut space[..n * 4], out)
 }
 
 // Whether nothing is left.
-pub fn is_end(fd: i32) -> bool {
+pub fn is_end(file: &mut impl Read) -> io::Result<bool> {
     let mut byte = [0u8; 1];
-    io::read_full(fd, &mut byte) == 0
+    Ok(!bytes(file, &mut byte)?)
 }

@@ -1,34 +1,30 @@
 // What is written: texts, numbers, and the lines on a file.
-use libc::STDOUT_FILENO;
+use std::io;
 
-pub fn text(bytes: &[u8]) {
-    io::write_all(STDOUT_FILENO, bytes);
+pub fn text(rt: &impl Print, text: &str) -> io::Result<()> {
+    print!(rt; "{text}")
 }
 
-pub fn number(n: usize) {
-    io::print_decimal(STDOUT_FILENO, n as u64);
+pub fn number(rt: &impl Print, n: usize) -> io::Result<()> {
+    print!(rt; "{n}")
 }
 
-pub fn line(name: &[u8], what: &[u8]) {
-    text(name);
-    text(what);
-    text(b"\n");
+pub fn line(rt: &impl Print, name: &str, what: &str) -> io::Result<()> {
+    println!(rt; "{name}{what}")
 }
 
 // A line with a number in it.
-pub fn numbered_line(name: &[u8], before: &[u8], n: usize, after: &[u8]) {
-    text(name);
-    text(before);
-    number(n);
-    line(after, b"");
+pub fn numbered_line(
+    rt: &impl Print,
+    name: &str,
+    before: &str,
+    n: usize,
+    after: &str,
+) -> io::Result<()> {
+    println!(rt; "{name}{before}{n}{after}")
 }
 
 // How many cases a file has, and how many of them differ.
-pub fn total(name: &[u8], cases: usize, differ: usize) {
-    text(name);
-    text(b": ");
-    number(cases);
-    text(b" cases, ");
-    number(differ);
-    text(b" differ\n");
+pub fn total(rt: &impl Print, name: &str, cases: usize, differ: usize) -> io::Result<()> {
+    println!(rt; "{name}: {cases} cases, {differ} differ")
 }

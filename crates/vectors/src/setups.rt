@@ -2,63 +2,76 @@
 use super::read::ROOM;
 use super::{Outcome, read, tell};
 use image::layout::wide;
+use std::io;
+use std::io::Read;
 
 // Compares how many words are needed, where the settings and the buffer are right.
-fn needed(told: bool, name: &[u8], i: usize, head: &[u32; 8]) -> bool {
+fn needed(rt: &impl Print, told: bool, name: &str, i: usize, head: &[u32; 8]) -> io::Result<bool> {
     if head[7] == 0 {
         let n = image::words_needed(head[1], head[2], head[3], head[4], head[5], head[6]);
-        return tell::number(told, name, i, b"words needed", n, wide(head[0]));
+        return tell::number(rt, told, name, i, "words needed", n, wide(head[0]));
     }
-    told
+    Ok(told)
 }
 
 // Compares the number and every word of a buffer that is set up.
 fn compared(
-    name: &[u8],
+    rt: &impl Print,
+    name: &str,
     i: usize,
     head: &[u32; 8],
     given: &mut [u32],
     expected: &[u32],
-) -> Outcome {
+) -> io::Result<Outcome> {
     let number = image::set_up(given, head[1], head[2], head[3], head[4], head[5], head[6]);
-    let a = tell::number(false, name, i, b"number", wide(number), wide(head[7]));
-    let b = needed(a, name, i, head);
-    tell::end(tell::words(b, name, i, given, expected))
+    let a = tell::number(rt, false, name, i, "number", wide(number), wide(head[7]))?;
+    let b = needed(rt, a, name, i, head)?;
+    let c = tell::words(rt, b, name, i, given, expected)?;
+    tell::end(rt, c)
 }
 
 // Reads the words that are expected: those of the file, or where the number is a refusal the pattern that is there.
-fn expected_words(fd: i32, number: u32, expected: &mut [u32]) -> bool {
+fn expected_words(file: &mut impl Read, number: u32, expected: &mut [u32]) -> io::Result<bool> {
     if number != 0 {
-        return true;
+        return Ok(true);
     }
-    read::words(fd, expected)
+    read::words(file, expected)
 }
 
 // A case whose buffers have room. Both hold a pattern, which a refused set-up leaves as it is.
 fn on(
-    fd: i32,
-    name: &[u8],
+    rt: &impl Print,
+    file: &mut impl Read,
+    name: &str,
     i: usize,
     head: &[u32; 8],
     given: &mut [u32],
     expected: &mut [u32],
-) -> Outcome {
-    if !expected_words(fd, head[7], expected) {
-        return Outcome::Cut;
+) -> io::Result<Outcome> {
+    if !expected_words(file, head[7], expected)? {
+        return Ok(Outcome::Cut);
     }
-    compared(name, i, head, given, expected)
+    compared(rt, name, i, head, given, expected)
 }
 
-pub fn case(fd: i32, name: &[u8], i: usize) -> Outcome {
+pub fn case(rt: &impl Print, file: &mut impl Read, name: &str, i: usize) -> io::Result<Outcome> {
     let mut head = [0u32; 8];
-    if !read::words(fd, &mut head) {
-        return Outcome::Cut;
+    if !read::words(file, &mut head)? {
+        return Ok(Outcome::Cut);
     }
     let n = wide(head[0]);
     if ROOM < n {
-        return Outcome::TooLarge;
+        return Ok(Outcome::TooLarge);
     }
     let mut given = read::blank();
     let mut expected = read::blank();
-    on(fd, name, i, &head, &mut given[..n], &mut expected[..n])
+    on(
+        rt,
+        file,
+        name,
+        i,
+        &head,
+        &mut given[..n],
+        &mut expected[..n],
+    )
 }

@@ -3,112 +3,113 @@ ghost use Rattle.vectors.specs.Compared.{First};
 
 use super::{Outcome, say};
 use image::layout::wide;
+use std::io;
 
 // The line's beginning, or what stands between two differences.
-fn begin(told: bool, name: &[u8], i: usize) {
+fn begin(rt: &impl Print, told: bool, name: &str, i: usize) -> io::Result<()> {
     if told {
-        say::text(b"; ");
+        say::text(rt, "; ")
     } else {
-        say::text(name);
-        say::text(b" case ");
-        say::number(i);
-        say::text(b": ");
+        print!(rt; "{name} case {i}: ")
     }
 }
 
 // Tells a difference.
-fn different(given: usize, expected: usize) {
-    say::text(b" ");
-    say::number(given);
-    say::text(b", expected ");
-    say::number(expected);
+fn different(rt: &impl Print, given: usize, expected: usize) -> io::Result<()> {
+    print!(rt; " {given}, expected {expected}")
 }
 
 // Compares a number of case i.
 pub fn number(
+    rt: &impl Print,
     told: bool,
-    name: &[u8],
+    name: &str,
     i: usize,
-    what: &[u8],
+    what: &str,
     given: usize,
     expected: usize,
-) -> bool {
+) -> io::Result<bool> {
     if given == expected {
-        return told;
+        return Ok(told);
     }
-    begin(told, name, i);
-    say::text(what);
-    different(given, expected);
-    true
+    begin(rt, told, name, i)?;
+    say::text(rt, what)?;
+    different(rt, given, expected)?;
+    Ok(true)
 }
 
 // Tells a difference at a place.
 fn at(
+    rt: &impl Print,
     told: bool,
-    name: &[u8],
+    name: &str,
     i: usize,
-    what: &[u8],
+    what: &str,
     place: usize,
     given: usize,
     expected: usize,
-) -> bool {
-    begin(told, name, i);
-    say::text(what);
-    say::number(place);
-    say::text(b":");
-    different(given, expected);
-    true
+) -> io::Result<bool> {
+    begin(rt, told, name, i)?;
+    say::text(rt, what)?;
+    say::number(rt, place)?;
+    say::text(rt, ":")?;
+    different(rt, given, expected)?;
+    Ok(true)
 }
 
 // The first place at which two runs of words differ, or where the shorter ends.
 fn first_word(a: &[u32], b: &[u32]) -> usize
     ensures { First a.now b.now result }
 {
-    let mut k = 0;
-    while k < a.len() {
+    for k in 0..a.len() {
         if b.len() <= k {
             return k;
         }
         if a[k] != b[k] {
             return k;
         }
-        k += 1;
     }
-    k
+    a.len()
 }
 
 // The first place at which two runs of bytes differ, or where the shorter ends.
 fn first_byte(a: &[u8], b: &[u8]) -> usize
     ensures { First a.now b.now result }
 {
-    let mut k = 0;
-    while k < a.len() {
+    for k in 0..a.len() {
         if b.len() <= k {
             return k;
         }
         if a[k] != b[k] {
             return k;
         }
-        k += 1;
     }
-    k
+    a.len()
 }
 
 // Compares words of case i: tells the first that differs.
-pub fn words(told: bool, name: &[u8], i: usize, given: &[u32], expected: &[u32]) -> bool {
+pub fn words(
+    rt: &impl Print,
+    told: bool,
+    name: &str,
+    i: usize,
+    given: &[u32],
+    expected: &[u32],
+) -> io::Result<bool> {
     let k = first_word(given, expected);
     if k < given.len() && k < expected.len() {
         return at(
+            rt,
             told,
             name,
             i,
-            b"word ",
+            "word ",
             k,
             wide(given[k]),
             wide(expected[k]),
         );
     }
-    told
+    Ok(told)
 }
 
 fn wide_byte(x: u8) -> usize {
@@ -116,27 +117,35 @@ fn wide_byte(x: u8) -> usize {
 }
 
 // Compares bytes of case i: tells the first that differs.
-pub fn bytes(told: bool, name: &[u8], i: usize, given: &[u8], expected: &[u8]) -> bool {
+pub fn bytes(
+    rt: &impl Print,
+    told: bool,
+    name: &str,
+    i: usize,
+    given: &[u8],
+    expected: &[u8],
+) -> io::Result<bool> {
     let k = first_byte(given, expected);
     if k < given.len() && k < expected.len() {
         return at(
+            rt,
             told,
             name,
             i,
-            b"byte ",
+            "byte ",
             k,
             wide_byte(given[k]),
             wide_byte(expected[k]),
         );
     }
-    told
+    Ok(told)
 }
 
 // The end of a case.
-pub fn end(told: bool) -> Outcome {
+pub fn end(rt: &impl Print, told: bool) -> io::Result<Outcome> {
     if told {
-        say::text(b"\n");
-        return Outcome::Differs;
+        say::line(rt, "", "")?;
+        return Ok(Outcome::Differs);
     }
-    Outcome::Same
+    Ok(Outcome::Same)
 }

@@ -8,10 +8,8 @@ fn untouched(words: &[u32]) -> bool
     ensures { result ≡ all (length words.now) (λ i. eqb (get_or words.now i 0) 7) }
 {
     let mut ok = true;
-    let mut i = 0;
-    while i < words.len() {
-        ok = ok & (words[i] == 7);
-        i += 1;
+    for word in words {
+        ok = ok & (*word == 7);
     }
     ok
 }

@@ -46,10 +46,8 @@ fn is_given(image: &mut [u32], row: &[u32; 7]) -> bool {
 // Whether each row's step, one after another, gives what the row says.
 fn are_given(image: &mut [u32], rows: &[[u32; 7]]) -> bool {
     let mut ok = true;
-    let mut i = 0;
-    while i < rows.len() {
-        ok = ok & is_given(image, &rows[i]);
-        i += 1;
+    for row in rows {
+        ok = ok & is_given(image, row);
     }
     ok
 }

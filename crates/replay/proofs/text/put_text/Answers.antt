@@ -1,6 +1,6 @@
 -- Nothing is put yet; and one byte more.
 use Rattle.std.proofs.Common.{arith}
-use Rattle.replay.proofs.Puts.{none, copy_more, copied}
+use Rattle.replay.proofs.Puts.{none, copy_more}
 use Rattle.replay.proofs.text.put_text.Goals as goal
 
 pub loop-i-init : goal.loop-i-init

@@ -4,7 +4,7 @@ use Rattle.rules.specs.Damaged.{phase_line}
 use Rattle.rules.specs.Settings.{all_slots}
 use Rattle.rules.specs.State.{u, v, w}
 use Rattle.rules.specs.declared.Settings.{Settings}
-use Rattle.std.proofs.Common.{ne_eqb, lt-leb}
+use borrow.Author.Tests.{ne_eqb, lt-leb}
 use mathlib.Core.Bool.{and-false, or-false}
 use Rattle.image.proofs.check.phase_line.Goals as goal
 
@@ -43,19 +43,19 @@ module _ (S : Settings) (n u v w : ℕ) where
   no_line p h = rw (ne_eqb p 0 (λ e. omega arith), lt-leb p 2 (omega arith), lt-leb p 5 (omega arith), ne_eqb p 6 (λ e. omega arith), ne_eqb p 7 (λ e. omega arith)) (simp and-false)
 
 pub returns-in-0 : goal.returns-in-0
-returns-in-0 c = ?
+returns-in-0 c = idle_line _ _ _ _ _ _ ?
 
 pub returns-in-6 : goal.returns-in-6
-returns-in-6 c = ?
+returns-in-6 c = scan_line _ _ _ _ _ _ ?
 
 pub returns-in-7 : goal.returns-in-7
-returns-in-7 c = ?
+returns-in-7 c = free_line _ _ _ _ _ _ ?
 
 pub returns-in-1 : goal.returns-in-1
-returns-in-1 c = ?
+returns-in-1 c = slot_line _ _ _ _ _ _ (omega arith) (omega arith)
 
 pub returns-in-3 : goal.returns-in-3
-returns-in-3 c = ?
+returns-in-3 c = thread_line _ _ _ _ _ _ (omega arith) (omega arith)
 
 pub returns-in_default : goal.returns-in_default
-returns-in_default c = ?
+returns-in_default c = no_line _ _ _ _ _ _ (omega arith)

@@ -7,4 +7,4 @@ pub settings-s-requires : goal.settings-s-requires
 settings-s-requires c = settings_in c.requires
 
 pub returns : goal.returns
-returns c = laid_out c.requires c.settings-s.ensures ? ?
+returns c = laid_out c.requires c.settings-s.ensures c.room-l.ensures c.starts-starts.ensures

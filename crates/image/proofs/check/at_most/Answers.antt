@@ -1,5 +1,5 @@
 -- The halves make the run, but for its last word where their number is odd.
-use Rattle.std.proofs.Common.{rules, arith, ◌≡◌, ◌≢◌, ◌⊎◌, inl, inr, ℕ, zero, suc, ◌+◌, ◌-◌, ◌*◌, ◌/◌, ◌%◌, ◌^◌, ◌<◌, ◌≤◌, Bool, true, false, not, ◌&&◌, ◌||◌, cond, List, [], ◌∷◌, ◌++◌, length, get_or, set, take, drop, replicate, eqb, leb, ltb, refl, sym, ap, ◌∙◌, subst, below_more, length-set, get_or-set_same, get_or-set_other, lit≤, lit<, min, max}
+use Rattle.std.proofs.Common.{arith, ◌≡◌, ℕ, ◌+◌, ◌/◌, ◌≤◌, Bool, ◌&&◌, List, get_or, leb, refl, ap, ◌∙◌}
 use Rattle.image.proofs.Loops.{all_halves, ends, goes_on}
 use Rattle.rules.proofs.Laws.{all_same}
 use Rattle.rules.specs.Tests.{all}

@@ -1,5 +1,5 @@
 -- Every entry of the lists passed is at most b.
-use Rattle.std.proofs.Common.{rules, arith, ◌≡◌, ◌≢◌, ◌⊎◌, inl, inr, ℕ, zero, suc, ◌+◌, ◌-◌, ◌*◌, ◌/◌, ◌%◌, ◌^◌, ◌<◌, ◌≤◌, Bool, true, false, not, ◌&&◌, ◌||◌, cond, List, [], ◌∷◌, ◌++◌, length, get_or, set, take, drop, replicate, eqb, leb, ltb, refl, sym, ap, ◌∙◌, subst, below_more, length-set, get_or-set_same, get_or-set_other, lit≤, lit<, min, max}
+use Rattle.std.proofs.Common.{◌≡◌, ◌-◌, ◌≤◌, leb}
 use Rattle.rules.specs.Image.{view}
 use Rattle.rules.specs.Settings.{room}
 use Rattle.rules.specs.State.{entry}

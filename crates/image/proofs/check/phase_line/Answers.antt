@@ -1,8 +1,7 @@
 -- Each arm is its phase's line: at a phase only one line of the rule can hold.
-use Rattle.std.proofs.Common.{rules, arith, ◌≡◌, ◌≢◌, ◌⊎◌, inl, inr, ℕ, zero, suc, ◌+◌, ◌-◌, ◌*◌, ◌/◌, ◌%◌, ◌^◌, ◌<◌, ◌≤◌, Bool, true, false, not, ◌&&◌, ◌||◌, cond, List, [], ◌∷◌, ◌++◌, length, get_or, set, take, drop, replicate, eqb, leb, ltb, refl, sym, ap, ◌∙◌, subst, below_more, length-set, get_or-set_same, get_or-set_other, lit≤, lit<, min, max}
+use Rattle.std.proofs.Common.{arith, ◌≡◌, ℕ, zero, suc, ◌<◌, ◌≤◌, false, ◌&&◌, eqb, leb, ltb}
 use Rattle.rules.specs.Damaged.{phase_line}
 use Rattle.rules.specs.Settings.{all_slots}
-use Rattle.rules.specs.State.{u, v, w}
 use Rattle.rules.specs.declared.Settings.{Settings}
 use borrow.Author.Tests.{ne_eqb, lt-leb}
 use mathlib.Core.Bool.{and-false, or-false}
@@ -43,13 +42,13 @@ module _ (S : Settings) (n u v w : ℕ) where
   no_line p h = rw (ne_eqb p 0 (λ e. omega arith), lt-leb p 2 (omega arith), lt-leb p 5 (omega arith), ne_eqb p 6 (λ e. omega arith), ne_eqb p 7 (λ e. omega arith)) (simp and-false)
 
 pub returns-in-0 : goal.returns-in-0
-returns-in-0 c = idle_line _ _ _ _ _ _ ?
+returns-in-0 c = idle_line _ _ _ _ _ _ c.in-0.is
 
 pub returns-in-6 : goal.returns-in-6
-returns-in-6 c = scan_line _ _ _ _ _ _ ?
+returns-in-6 c = scan_line _ _ _ _ _ _ c.in-6.is
 
 pub returns-in-7 : goal.returns-in-7
-returns-in-7 c = free_line _ _ _ _ _ _ ?
+returns-in-7 c = free_line _ _ _ _ _ _ c.in-7.is
 
 pub returns-in-1 : goal.returns-in-1
 returns-in-1 c = slot_line _ _ _ _ _ _ (omega arith) (omega arith)

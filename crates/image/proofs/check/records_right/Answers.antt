@@ -1,6 +1,6 @@
 -- Sections 1, 3, 4 and 10 hold the cells, the slots and the scanned words, and the lists their entries.
 -- section k has no word beyond the records
-use Rattle.std.proofs.Common.{rules, arith, ◌≡◌, ◌≢◌, ◌⊎◌, inl, inr, ℕ, zero, suc, ◌+◌, ◌-◌, ◌*◌, ◌/◌, ◌%◌, ◌^◌, ◌<◌, ◌≤◌, Bool, true, false, not, ◌&&◌, ◌||◌, cond, List, [], ◌∷◌, ◌++◌, length, get_or, set, take, drop, replicate, eqb, leb, ltb, refl, sym, ap, ◌∙◌, subst, below_more, length-set, get_or-set_same, get_or-set_other, lit≤, lit<, min, max}
+use Rattle.std.proofs.Common.{arith, ◌≡◌, ℕ, ◌+◌, Bool, ◌&&◌, List, get_or, leb, refl, ◌∙◌}
 use Rattle.image.proofs.Columns.{column, narrow}
 use Rattle.rules.specs.Damaged.{records_right}
 use Rattle.rules.specs.Image.{size, start, view}

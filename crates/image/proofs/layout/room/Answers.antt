@@ -1,5 +1,5 @@
 -- The larger of the two, as the branch says.
-use Rattle.std.proofs.Common.{rules, arith, ◌≡◌, ◌≢◌, ◌⊎◌, inl, inr, ℕ, zero, suc, ◌+◌, ◌-◌, ◌*◌, ◌/◌, ◌%◌, ◌^◌, ◌<◌, ◌≤◌, Bool, true, false, not, ◌&&◌, ◌||◌, cond, List, [], ◌∷◌, ◌++◌, length, get_or, set, take, drop, replicate, eqb, leb, ltb, refl, sym, ap, ◌∙◌, subst, below_more, length-set, get_or-set_same, get_or-set_other, lit≤, lit<, min, max}
+use Rattle.std.proofs.Common.{arith}
 use Rattle.rules.specs.Settings.{room}
 use Rattle.image.proofs.layout.room.Goals as goal
 

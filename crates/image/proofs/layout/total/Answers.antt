@@ -1,4 +1,4 @@
-use Rattle.std.proofs.Common.{rules, arith, ◌≡◌, ◌≢◌, ◌⊎◌, inl, inr, ℕ, zero, suc, ◌+◌, ◌-◌, ◌*◌, ◌/◌, ◌%◌, ◌^◌, ◌<◌, ◌≤◌, Bool, true, false, not, ◌&&◌, ◌||◌, cond, List, [], ◌∷◌, ◌++◌, length, get_or, set, take, drop, replicate, eqb, leb, ltb, refl, sym, ap, ◌∙◌, subst, below_more, length-set, get_or-set_same, get_or-set_other, lit≤, lit<, min, max}
+use Rattle.std.proofs.Common.{arith, ◌≡◌, ap, ◌∙◌}
 use Rattle.image.proofs.Sections.{section_most, size_is, start_more, start_none}
 use Rattle.rules.specs.Image.{sections, start}
 use Rattle.image.proofs.layout.total.Goals as goal

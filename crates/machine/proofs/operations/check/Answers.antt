@@ -1,0 +1,8 @@
+-- The rule's words, by the operands that it reads.
+use Rattle.std.proofs.Common.{rules, arith, ◌≡◌, ◌≢◌, ◌⊎◌, inl, inr, ℕ, zero, suc, ◌+◌, ◌-◌, ◌*◌, ◌/◌, ◌%◌, ◌^◌, ◌<◌, ◌≤◌, Bool, true, false, not, ◌&&◌, ◌||◌, cond, List, [], ◌∷◌, ◌++◌, length, get_or, set, take, drop, replicate, eqb, leb, ltb, refl, sym, ap, ◌∙◌, subst, below_more, length-set, get_or-set_same, get_or-set_other, lit≤, lit<, min, max}
+use Rattle.machine.proofs.Joins.{check_joined}
+use Rattle.machine.proofs.operations.check.Goals as goal
+
+pub returns : goal.returns
+returns c =
+    check_joined _ _ _ c.thread-slot.ensures c.thread-cell.ensures c.thread-record.ensures c.cell.ensures c.set_slot_if.ensures c.to_idle.ensures c.bit.ensures

@@ -1,9 +1,9 @@
 -- A step's answer as the code comes to it: a row of the table that is given, or the operation's own answer.
-use Rattle.std.proofs.Common.{◌≡◌, ℕ, ◌<◌, ◌≤◌, Bool, true, false, not, ◌&&◌, eqb, leb, List, sym, ap, ◌∙◌, arith, le-leb}
+use Rattle.std.proofs.Common.{◌≡◌, ℕ, ◌+◌, ◌<◌, ◌≤◌, Bool, true, false, not, ◌&&◌, eqb, leb, List, sym, ap, ◌∙◌, zero-le, arith, le-leb}
 use borrow.Author.Tests.{lt-leb}
 use Rattle.rules.specs.declared.Settings.{Settings}
 use Rattle.rules.specs.Settings.{room}
-use Rattle.rules.specs.Phases.{operations, phases, allows, #reserve, #check, #deliver}
+use Rattle.rules.specs.Phases.{operations, phases, allows, #reserve, #check, #deliver, #handle}
 use Rattle.rules.specs.State.{State, handler, phase, u, v, list_length, entry, Answer, refused}
 use Rattle.rules.specs.Image.{view, Outcome, outcome, after}
 use Rattle.rules.specs.Replies.{Step, step_of}
@@ -22,6 +22,21 @@ pub at_op : (S : Settings) (I : List ℕ) (m : State) (t : ℕ) {op : ℕ} (k a 
     → checked (late S m t k a b c) (perform S m (step_of t k a b c)) ≡ x → o ≡ after S I x
     → o ≡ after S I (checked (late S m t op a b c) (perform S m (step_of t op a b c)))
 at_op S I m t k a b c e h g = rw (e, h) g
+
+-- the one that is none of the others
+past : {op k : ℕ} → k ≤ op → (op ≡ k → ⊥) → k + 1 ≤ op
+past h n = omega arith
+
+last : {op : ℕ} → #handle ≤ op → op < operations → op ≡ #handle
+last h k = omega arith
+
+pub last_op : {op : ℕ} → op < operations
+    → ((((((((((Unit {0} × (op ≡ 0 → ⊥)) × (op ≡ 1 → ⊥)) × (op ≡ 2 → ⊥)) × (op ≡ 3 → ⊥)) × (op ≡ 4 → ⊥)) × (op ≡ 5 → ⊥)) × (op ≡ 6 → ⊥)) × (op ≡ 7 → ⊥)) × (op ≡ 8 → ⊥)) × (op ≡ 9 → ⊥))
+    → op ≡ #handle
+last_op h r =
+    last (past (past (past (past (past (past (past (past (past (past zero-le
+    r.0.0.0.0.0.0.0.0.0.1) r.0.0.0.0.0.0.0.0.1) r.0.0.0.0.0.0.0.1) r.0.0.0.0.0.0.1)
+    r.0.0.0.0.0.1) r.0.0.0.0.1) r.0.0.0.1) r.0.0.1) r.0.1) r.1) h
 
 -- the rows 2 to 6 as the code tests them: h and p are thread t's handler and phase
 module _ (S : Settings) (I : List ℕ) (t op a b c : ℕ) where

@@ -5,7 +5,7 @@ use mathlib.Core.Bool.{or-true}
 use native.Mathlib.Nat.{add-sub_cancel_left}
 use Rattle.rules.specs.declared.Settings.{Settings}
 use Rattle.rules.specs.Settings.{modulus, all_slots, slot, room}
-use Rattle.rules.specs.Phases.{collecting, scanning, freeing}
+use Rattle.rules.specs.Phases.{collecting, pinging, waiting, scanning, freeing}
 use Rattle.rules.specs.State.{Private, Published, State, cell, status, private, held, count, phase, u, v, w, pending, handler, collected, list_length, entry, when, cell≔, status≔, published≔, held≔, count≔, phase≔, u≔, v≔, pending≔, handler≔, list_length≔, entry≔, Answer}
 use Rattle.rules.specs.Image.{sections, size, sizes, start, within, address, view, write_all, Outcome, outcome, after}
 use Rattle.rules.specs.Damaged.{in_use}
@@ -222,6 +222,11 @@ seen_joined {S} I t {x} {n} {p} {q} {R} l h d e f r = elim (either (eqb (x / S.s
   | holds b ↦ rw (r, b) (part_at I x n S.slots (p + 1) l.slots_low (omega arith) ∙ sym (private_read S I h e))
   | fails b ↦ rw (r, b) (part_at I x n S.slots (q + 1) l.slots_low (omega arith) ∙ sym (published_read S I h f))
 ]
+
+-- no phase from 3 on but freeing is left, where p is none of the others
+pub phase_left : {S : Settings} {m : State} {t p : ℕ} → Thread S m t → collecting ≤ phase m t → p ≡ phase m t
+    → p ≢ collecting → p ≢ pinging → p ≢ waiting → p ≢ scanning → phase m t ≡ freeing
+phase_left s h e a b c d = omega (arith, s.line.known)
 
 -- there item u is in use: it is on the list, and its entry is a record
 pub record Item (l : Layout) (m : State) (t : ℕ) : Type 0 where

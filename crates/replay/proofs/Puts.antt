@@ -1,12 +1,12 @@
 -- Texts put into a buffer one after another.
-use mathlib.Core.Path.{◌≡◌, refl, sym, ap, ◌∙◌}
+use mathlib.Core.Path.{◌≡◌, refl, sym, ap, subst, ◌∙◌}
 use mathlib.Core.List.{List, [], ◌∷◌, ◌++◌, append_assoc}
-use Prim.Native.Nat.{ℕ, ◌+◌, ◌≤◌, ◌<◌}
+use Prim.Native.Nat.{ℕ, ◌+◌, ◌-◌, ◌≤◌, ◌<◌}
 use native.Mathlib.Nat.{add-zero}
 use native.Mathlib.Numerals.{add-one}
 use native.Mathlib.Omega.{arith}
 use lib.ListN.{length, get_or, set, take, drop, length-append, length-take, length-drop, take-append-drop}
-use lib.Seq.{take-suc, take_at, drop-append-add, drop-drop, set_split, length-take-le}
+use lib.Seq.{take-suc, take-length, take_at, drop-append-add, drop-drop, set_split, length-take-le}
 use Rattle.replay.specs.Put.{put, Put}
 
 module _ (O : List ℕ) (at : ℕ) where
@@ -69,7 +69,7 @@ none O at = record { all = sym (put_none O at); end = refl }
 pub long : {O O' : List ℕ} {at r : ℕ} {t : List ℕ} → at + length t ≤ length O → Put O O' at r t → length O' ≡ length O
 long {O} {at = at} {t = t} h a = ap length a.all ∙ put_length O at t h
 
--- a loop that copies a text: one byte more
+-- a loop that copies a text: one byte more, and all of them
 pub copy_more : {O O' : List ℕ} {at : ℕ} (t : List ℕ) (i : ℕ) → i < length t → at + length t ≤ length O → Put O O' at (at + i) (take i t)
     → Put O (set O' (at + i) (get_or t i 0)) at (at + (i + 1)) (take (i + 1) t)
 copy_more {O} {O'} {at} t i l h a =
@@ -77,3 +77,6 @@ copy_more {O} {O'} {at} t i l h a =
     let d : at + (i + 1) ≡ at + i + 1 = omega arith in
     let w : length (take i t) ≡ i = length-take-le i t (omega arith) in
     rw (e, d) (then_byte (get_or t i 0) (omega arith) a)
+
+pub copied : {O O' : List ℕ} {at : ℕ} (t : List ℕ) (i : ℕ) → i ≡ length t → Put O O' at (at + i) (take i t) → Put O O' at (at + i) t
+copied {O} {O'} {at} t i e a = subst (λ (l : List ℕ). Put O O' at (at + i) l) (ap (λ (k : ℕ). take k t) e ∙ take-length t) a

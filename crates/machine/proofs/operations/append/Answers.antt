@@ -1,5 +1,5 @@
 -- The rule's words, one call each, in its order.
-use Rattle.std.proofs.Common.{rules, arith, ◌≡◌, ◌≢◌, ◌⊎◌, inl, inr, ℕ, zero, suc, ◌+◌, ◌-◌, ◌*◌, ◌/◌, ◌%◌, ◌^◌, ◌<◌, ◌≤◌, Bool, true, false, not, ◌&&◌, ◌||◌, cond, List, [], ◌∷◌, ◌++◌, length, get_or, set, take, drop, replicate, eqb, leb, ltb, refl, sym, ap, ◌∙◌, subst, below_more, length-set, get_or-set_same, get_or-set_other, lit≤, lit<, min, max}
+use Rattle.std.proofs.Common.{arith}
 use Rattle.machine.proofs.Joins.{append_joined, room_fits}
 use Rattle.machine.proofs.operations.append.Goals as goal
 

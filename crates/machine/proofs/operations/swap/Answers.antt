@@ -1,5 +1,4 @@
 -- The row is given for a dead record, and else the rule's word is written under its test.
-use Rattle.std.proofs.Common.{rules, arith, ◌≡◌, ◌≢◌, ◌⊎◌, inl, inr, ℕ, zero, suc, ◌+◌, ◌-◌, ◌*◌, ◌/◌, ◌%◌, ◌^◌, ◌<◌, ◌≤◌, Bool, true, false, not, ◌&&◌, ◌||◌, cond, List, [], ◌∷◌, ◌++◌, length, get_or, set, take, drop, replicate, eqb, leb, ltb, refl, sym, ap, ◌∙◌, subst, below_more, length-set, get_or-set_same, get_or-set_other, lit≤, lit<, min, max}
 use Rattle.machine.proofs.Joins.{swap_dead, swap_done}
 use Rattle.machine.proofs.operations.swap.Goals as goal
 

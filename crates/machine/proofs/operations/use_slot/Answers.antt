@@ -1,5 +1,4 @@
 -- The row is given where the slot isn't held, and else the slot is read.
-use Rattle.std.proofs.Common.{rules, arith, ◌≡◌, ◌≢◌, ◌⊎◌, inl, inr, ℕ, zero, suc, ◌+◌, ◌-◌, ◌*◌, ◌/◌, ◌%◌, ◌^◌, ◌<◌, ◌≤◌, Bool, true, false, not, ◌&&◌, ◌||◌, cond, List, [], ◌∷◌, ◌++◌, length, get_or, set, take, drop, replicate, eqb, leb, ltb, refl, sym, ap, ◌∙◌, subst, below_more, length-set, get_or-set_same, get_or-set_other, lit≤, lit<, min, max}
 use Rattle.machine.proofs.Joins.{use_done, use_none}
 use Rattle.machine.proofs.operations.use_slot.Goals as goal
 

@@ -1,5 +1,5 @@
 -- A list's row is its length and its entries.
-use Rattle.std.proofs.Common.{rules, arith, ◌≡◌, ◌≢◌, ◌⊎◌, inl, inr, ℕ, zero, suc, ◌+◌, ◌-◌, ◌*◌, ◌/◌, ◌%◌, ◌^◌, ◌<◌, ◌≤◌, Bool, true, false, not, ◌&&◌, ◌||◌, cond, List, [], ◌∷◌, ◌++◌, length, get_or, set, take, drop, replicate, eqb, leb, ltb, refl, sym, ap, ◌∙◌, subst, below_more, length-set, get_or-set_same, get_or-set_other, lit≤, lit<, min, max}
+use Rattle.std.proofs.Common.{rules, arith, lit≤}
 use Rattle.image.proofs.Sections.{lists_fit, start_fits}
 use Rattle.machine.proofs.Standing.{entry_stands}
 use Rattle.rules.proofs.Limits.{room_most}

@@ -1,5 +1,5 @@
 -- Sections 3, 4 and 5 have a word for each slot.
-use Rattle.std.proofs.Common.{rules, arith, ◌≡◌, ◌≢◌, ◌⊎◌, inl, inr, ℕ, zero, suc, ◌+◌, ◌-◌, ◌*◌, ◌/◌, ◌%◌, ◌^◌, ◌<◌, ◌≤◌, Bool, true, false, not, ◌&&◌, ◌||◌, cond, List, [], ◌∷◌, ◌++◌, length, get_or, set, take, drop, replicate, eqb, leb, ltb, refl, sym, ap, ◌∙◌, subst, below_more, length-set, get_or-set_same, get_or-set_other, lit≤, lit<, min, max}
+use Rattle.std.proofs.Common.{rules, arith, ◌+◌}
 use Rattle.image.proofs.Sections.{start_fits}
 use Rattle.machine.proofs.Standing.{slot_stands}
 use Rattle.rules.proofs.Limits.{slots_most}

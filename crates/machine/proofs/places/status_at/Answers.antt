@@ -1,5 +1,5 @@
 -- The statuses stand in section 2, and the first record is 1.
-use Rattle.std.proofs.Common.{rules, arith, ◌≡◌, ◌≢◌, ◌⊎◌, inl, inr, ℕ, zero, suc, ◌+◌, ◌-◌, ◌*◌, ◌/◌, ◌%◌, ◌^◌, ◌<◌, ◌≤◌, Bool, true, false, not, ◌&&◌, ◌||◌, cond, List, [], ◌∷◌, ◌++◌, length, get_or, set, take, drop, replicate, eqb, leb, ltb, refl, sym, ap, ◌∙◌, subst, below_more, length-set, get_or-set_same, get_or-set_other, lit≤, lit<, min, max}
+use Rattle.std.proofs.Common.{rules, arith, lit≤}
 use Rattle.image.proofs.Sections.{start_fits}
 use Rattle.machine.proofs.Standing.{status_stands}
 use Rattle.machine.proofs.places.status_at.Goals as goal

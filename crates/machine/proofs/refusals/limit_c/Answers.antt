@@ -1,5 +1,5 @@
 -- Only a swap lists a third operand.
-use Rattle.std.proofs.Common.{rules, arith, ◌≡◌, ◌≢◌, ◌⊎◌, inl, inr, ℕ, zero, suc, ◌+◌, ◌-◌, ◌*◌, ◌/◌, ◌%◌, ◌^◌, ◌<◌, ◌≤◌, Bool, true, false, not, ◌&&◌, ◌||◌, cond, List, [], ◌∷◌, ◌++◌, length, get_or, set, take, drop, replicate, eqb, leb, ltb, refl, sym, ap, ◌∙◌, subst, below_more, length-set, get_or-set_same, get_or-set_other, lit≤, lit<, min, max}
+use Rattle.std.proofs.Common.{arith, refl}
 use Rattle.machine.proofs.OperandLimits.{at_operation, unlisted}
 use Rattle.rules.specs.Replies.{operands}
 use Rattle.machine.proofs.refusals.limit_c.Goals as goal

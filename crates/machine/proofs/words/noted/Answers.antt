@@ -1,8 +1,7 @@
 -- `scanned_row` says where the scanned words stand.
-use Rattle.std.proofs.Common.{rules, arith, ◌≡◌, ◌≢◌, ◌⊎◌, inl, inr, ℕ, zero, suc, ◌+◌, ◌-◌, ◌*◌, ◌/◌, ◌%◌, ◌^◌, ◌<◌, ◌≤◌, Bool, true, false, not, ◌&&◌, ◌||◌, cond, List, [], ◌∷◌, ◌++◌, length, get_or, set, take, drop, replicate, eqb, leb, ltb, refl, sym, ap, ◌∙◌, subst, below_more, length-set, get_or-set_same, get_or-set_other, lit≤, lit<, min, max}
+use Rattle.std.proofs.Common.{◌≡◌, ℕ, ◌+◌, Bool, List, get_or, eqb, sym, ap, ◌∙◌}
 use Rattle.machine.specs.Rows.{ScannedRow}
 use Rattle.rules.proofs.Laws.{some_same}
-use Rattle.rules.specs.Phases.{phases}
 use Rattle.rules.specs.Settings.{all_slots}
 use Rattle.rules.specs.Tests.{some}
 use Rattle.rules.specs.Advance as phases

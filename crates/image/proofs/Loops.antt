@@ -6,7 +6,7 @@ use native.Mathlib.Omega.{arith}
 use lib.Dec.{leb, ltb}
 use borrow.Author.Tests.{leb-true, leb-false, lt-ltb, le-ltb}
 use Rattle.rules.specs.Tests.{all}
-use Rattle.rules.proofs.Laws.{Either, holds, fails, either, all_none, all_more, all_sum, all_same, all_yes}
+use Rattle.rules.proofs.Laws.{holds, fails, either, all_none, all_more, all_sum, all_same, all_yes}
 
 -- a loop's verdict where it begins, after one more turn, and where it ends
 module _ (f : ℕ → Bool) where

@@ -14,7 +14,7 @@ use Rattle.rules.specs.declared.Settings.{Settings}
 use Rattle.rules.specs.Settings.{legal, settings_of, settings_words}
 use Rattle.rules.specs.Image.{sections, sizes, size, start, words, outcome}
 use Rattle.rules.specs.SetUp.{counts_section, fresh_section, fresh_up_to, fresh, set_up_number, set_up, words_needed}
-use Rattle.rules.proofs.Limits.{Limits, legal_says, start_apart, start_next, words_most}
+use Rattle.rules.proofs.Limits.{Limits, legal_says, start_apart, words_most}
 use Rattle.rules.proofs.Shaped.{words_far}
 use Rattle.image.specs.Filled.{Filled, Begun}
 

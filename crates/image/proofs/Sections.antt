@@ -10,7 +10,7 @@ use Rattle.rules.specs.declared.Settings.{Settings}
 use Rattle.rules.specs.Settings.{settings, room}
 use Rattle.rules.specs.Image.{sections, sizes, size, start, words}
 use Rattle.rules.proofs.Limits.{Limits, start_next, start_apart, words_most, lists_most}
-use Rattle.rules.proofs.Laws.{Sep, same, diff, sep}
+use Rattle.rules.proofs.Laws.{same, diff, sep}
 use Rattle.rules.proofs.Shaped.{Shaped}
 
 module _ (S : Settings) (k : ℕ) where

@@ -2,13 +2,12 @@
 use mathlib.Core.Path.{◌≡◌, refl, sym, ap, ◌∙◌}
 use mathlib.Core.List.{List}
 use Prim.Native.Nat.{ℕ, zero, suc, ◌+◌, ◌*◌, ◌-◌, ◌≤◌, ◌<◌}
-use native.Mathlib.Nat.{sub-zero, mul-one, add-zero, zero-add}
 use native.Mathlib.Omega.{arith}
 use lib.ListN.{get_or}
 use Rattle.rules.specs.declared.Settings.{Settings}
 use Rattle.rules.specs.Settings.{settings, room}
 use Rattle.rules.specs.State.{Kind, Phase, U', V', W', Pending, Handler, Length}
-use Rattle.rules.specs.Image.{sections, thread_words, start, lay, within, address, view}
+use Rattle.rules.specs.Image.{sections, thread_words, start, lay, within, address}
 use Rattle.rules.proofs.Places.{Valid, read, inside}
 use Rattle.image.specs.declared.layout.Layout.{Layout}
 use Rattle.rules.proofs.Limits.{Limits}

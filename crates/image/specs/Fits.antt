@@ -1,7 +1,7 @@
 -- A layout that is right for its settings, that fits an image, and where a word stands by it.
-use Rattle.std.specs.Prelude.{◌≡◌, cond, List, ℕ, ◌+◌, ◌*◌, ◌≤◌, ◌<◌, length, get_or, eqb}
-use Rattle.rules.specs.Settings.{room, all_slots}
-use Rattle.rules.specs.State.{Kind, Phase, U', V', W', Pending, Handler, Scanned}
+use Rattle.std.specs.Prelude.{◌≡◌, cond, List, ℕ, ◌≤◌, ◌<◌, length, get_or, eqb}
+use Rattle.rules.specs.Settings.{room}
+use Rattle.rules.specs.State.{Kind, Phase, U', V', W', Pending, Handler}
 use Rattle.rules.specs.Image.{sections, start, words, address, view}
 use Rattle.rules.proofs.Limits.{Limits}
 use Rattle.image.specs.declared.layout.Layout.{Layout}

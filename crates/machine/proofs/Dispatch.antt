@@ -1,9 +1,9 @@
 -- A step's answer as the code comes to it: a row of the table that is given, or the operation's own answer.
-use Rattle.std.proofs.Common.{◌≡◌, ℕ, ◌+◌, ◌<◌, ◌≤◌, Bool, true, false, not, ◌&&◌, eqb, leb, ◌≢◌, List, sym, refl, ap, ◌∙◌, zero-le, arith, le-leb}
+use Rattle.std.proofs.Common.{◌≡◌, ℕ, ◌+◌, ◌<◌, ◌≤◌, Bool, true, false, not, ◌&&◌, eqb, leb, List, sym, ap, ◌∙◌, zero-le, arith, le-leb}
 use borrow.Author.Tests.{lt-leb}
 use Rattle.rules.specs.declared.Settings.{Settings}
 use Rattle.rules.specs.Settings.{room}
-use Rattle.rules.specs.Phases.{operations, phases, loaded, reserved, collecting, allows, #reserve, #check, #retire, #advance, #deliver, #handle}
+use Rattle.rules.specs.Phases.{operations, phases, allows, #reserve, #check, #deliver, #handle}
 use Rattle.rules.specs.State.{State, handler, phase, u, v, list_length, entry, Answer, refused}
 use Rattle.rules.specs.Image.{view, Outcome, outcome, after}
 use Rattle.rules.specs.Replies.{Step, step_of}
@@ -12,8 +12,6 @@ use Rattle.rules.proofs.Sound.{Sound, Thread}
 use Rattle.rules.proofs.Checked.{checked, late, handling, answer_2, answer_3, answer_4, answer_5, answer_6, answer_late, Entered, entered}
 use Rattle.rules.proofs.Refused.{operand_wrong}
 use Rattle.rules.proofs.Branches.{says}
-use Rattle.image.specs.declared.layout.Layout.{Layout}
-use Rattle.image.specs.Fits.{Fits}
 
 -- a refusal leaves the image as it is
 pub refusing : (S : Settings) (I : List ℕ) {a : Answer} {n : ℕ} → a ≡ refused n → outcome n 0 I ≡ after S I a

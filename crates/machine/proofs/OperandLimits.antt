@@ -1,8 +1,8 @@
 -- The limits of operands, operation by operation.
-use Rattle.std.proofs.Common.{◌≡◌, ℕ, ◌+◌, ◌<◌, ◌≤◌, Bool, not, ◌&&◌, ◌||◌, eqb, ltb, ◌≢◌, List, [], get_or, sym, refl, ap, ◌∙◌, zero-le}
+use Rattle.std.proofs.Common.{◌≡◌, ℕ, ◌<◌, not, ◌&&◌, ◌||◌, eqb, ltb, ◌≢◌, [], get_or, refl, zero-le}
 use Rattle.rules.specs.declared.Settings.{Settings}
 use Rattle.rules.specs.Phases.{operations, #retire}
-use Rattle.rules.specs.Replies.{Operand, limit, operands, not_listed, fits, operands_fit, step_of}
+use Rattle.rules.specs.Replies.{limit, operands, not_listed, fits, operands_fit, step_of}
 use Rattle.rules.proofs.Laws.{end, ◌▸◌, case_of}
 use Rattle.rules.proofs.Refused.{operand_wrong}
 

@@ -1,7 +1,7 @@
 -- A search for a word that is 0: what it has passed over.
 use Rattle.std.proofs.Common.{◌≡◌, ℕ, ◌+◌, ◌-◌, ◌<◌, ◌≤◌, Bool, false, eqb, ltb, ◌≢◌, List, get_or, sym, ap, ◌∙◌, arith, ltb-false, ltb-true}
 use Rattle.rules.specs.Tests.{some}
-use Rattle.rules.proofs.Laws.{Either, holds, fails, either}
+use Rattle.rules.proofs.Laws.{holds, fails, either}
 use Rattle.rules.proofs.Moves.{missed}
 
 -- none of the first n words from p on is 0

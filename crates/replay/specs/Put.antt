@@ -1,5 +1,5 @@
 -- A text in a buffer.
-use Rattle.std.specs.Prelude.{◌≡◌, List, [], ◌∷◌, ◌++◌, ℕ, ◌+◌, length, take, drop}
+use Rattle.std.specs.Prelude.{◌≡◌, List, ◌++◌, ℕ, ◌+◌, length, take, drop}
 use Rattle.rules.specs.Program.{ascii, decimal}
 
 -- a text put into a buffer from a place on: the bytes before and behind it stay

@@ -2,7 +2,6 @@
 use Rattle.std.specs.Prelude.{◌≡◌, not, ◌&&◌, List, ℕ, ◌+◌, ◌≤◌, eqb}
 use Rattle.rules.specs.Tests.{bit}
 use Rattle.rules.specs.Phases.{#advance}
-use Rattle.rules.specs.Image.{Outcome}
 use Rattle.rules.specs.Replies.{Step}
 use Rattle.rules.specs.Step.{step}
 use Rattle.rules.specs.Schedules.{outcomes}

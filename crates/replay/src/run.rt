@@ -28,6 +28,7 @@ fn bit(b: bool) -> u32
 }
 
 // One step more: its text ends at p.
+#[tactic(auto, unfolding(crate::specs::Tally::counted_in))]
 fn counted(t: Tally, p: usize, op: u32, number: u32, value: u32) -> Tally
     requires { Low t }
     ensures { result ≡ counted_in t p op number value }

@@ -35,6 +35,7 @@ fn byte(x: u8) -> u32
 }
 
 // Word i of the input, from four bytes, the lowest first.
+#[tactic(auto, unfolding(rules::specs::Program::word))]
 pub fn word(input: &[u8], i: usize) -> u32
     requires { i * 4 + 4 ≤ length input.now }
     ensures { result ≡ program.word input.now i }
@@ -47,6 +48,7 @@ pub fn word(input: &[u8], i: usize) -> u32
 }
 
 // The settings that the input gives.
+#[tactic(auto, unfolding(rules::specs::Program::given_settings))]
 fn settings(input: &[u8]) -> Settings
     requires { program.before_steps * 4 ≤ length input.now }
     ensures { result ≡ program.given_settings input.now }
@@ -62,6 +64,7 @@ fn settings(input: &[u8]) -> Settings
 }
 
 // How many steps the input says it has.
+#[tactic(auto, unfolding(rules::specs::Program::given_count))]
 pub fn count(input: &[u8]) -> usize
     requires { program.before_steps * 4 ≤ length input.now }
     ensures { result ≡ program.given_count input.now }
@@ -87,6 +90,7 @@ pub fn is_schedule(input: &[u8]) -> bool
 }
 
 // Step i of the schedule.
+#[tactic(auto, unfolding(rules::specs::Program::given_step))]
 pub fn step_at(input: &[u8], i: usize) -> Five
     requires { Inside input.now i }
     ensures { step_in result ≡ program.given_step input.now i }

@@ -144,88 +144,88 @@ own_turn : {S : Settings} {m : State} {s : Step} {r : Answer} → Move S m s r
 unfolding allocate swap load reserve to_idle check use_slot clear retire deliver onward collect ping scan seen freed_on
 own_turn {S} {m} {s} mv = let q : eqb s.thread s.thread ≡ true = eqb_self s.thread in
     elim mv as (λ r _. Turn S s r.value m (next m r) s.thread (eqb s.op #advance && not (eqb r.value 0))) [
-  | allocates f ↦ rw f.op (still (omega arith))
-  | swaps f ↦ rw f.op (still (omega arith))
-  | loads f ↦ rw f.op (outside (record { before = omega arith; after = rw q (omega arith); list = omega arith; now = rw q (omega arith) }))
-  | reserves f ↦ rw f.op (outside (record {
-    before = omega arith;
-    after = rw q (omega arith);
-    list = omega arith;
-    now = λ _. rw (eqb_self (slot S s.thread (u m s.thread)));
-  }))
-  | checks f ↦ rw f.op (outside (record { before = omega arith; after = rw q (omega arith); list = omega arith; now = rw q (omega arith) }))
-  | uses f ↦ rw f.op (still (omega arith))
-  | clears f ↦ rw f.op (still (omega arith))
-  | retires f ↦ rw f.op (retiring s.a (refl, refl) (record {
-    was_idle = f.at;
-    some = f.some;
-    live = f.live;
-    dead = rw (eqb_self s.a);
-    longer = rw q;
-    added = λ i. rw q;
-    low = elim (either (leb S.threshold (list_length m s.thread + 1)))
-        [ holds e ↦ rw (q, e) (omega arith) | fails e ↦ rw (q, e) (omega arith) ];
-    idle_or = elim (either (leb S.threshold (list_length m s.thread + 1)))
-        [ holds e ↦ rw (q, e) (λ n. absurd (n refl)) | fails e ↦ rw (q, e) (λ _. (f.at, leb-false _ _ e)) ];
-    first = elim (either (leb S.threshold (list_length m s.thread + 1)))
-        [ holds e ↦ rw (q, e) | fails e ↦ rw (q, e) f.first ];
-    only = λ b j n. rw (ne_eqb s.thread b n);
-  }))
-  | collects f ↦ rw f.op (collecting_on (record {
-    at = f.at;
-    next = rw (q, f.at) (onward_is collecting (u m s.thread) S.threads f.inside);
-    list = omega arith;
-    noted = λ b. elim (sep (u m s.thread) b) [ same e g ↦ rw (q, g, e) | diff e g ↦ rw (q, g) ];
-    same_scanned = omega arith;
-  }))
-  | pings f ↦ rw f.op (pinging_on (record {
-    at = f.at;
-    next = rw (q, f.at) (onward_is pinging (u m s.thread) S.threads f.inside);
-    list = omega arith;
-    same_collected = omega arith;
-    same_scanned = omega arith;
-  }))
-  | waits f ↦ rw f.op (waiting_on (record {
-    at = f.at;
-    next = rw (q, f.at) (onward_is waiting (u m s.thread) S.threads f.inside);
-    list = omega arith;
-    moved = λ b n e. rw (← e) (f.moved (λ z. n (z ∙ e)));
-    same_collected = omega arith;
-    same_scanned = omega arith;
-  }))
-  | stays f ↦ rw f.op (still (omega arith))
-  | scans f ↦ rw f.op (scanning_on (record {
-    at = f.at;
-    next = rw (q, f.at) (onward_is scanning (u m s.thread) (all_slots S) f.inside);
-    list = omega arith;
-    none = f.none;
-    same_collected = omega arith;
-    noted = λ x. elim (sep (u m s.thread) x) [ same e g ↦ rw (q, g, e) | diff e g ↦ rw (q, g) ];
-  }))
-  | keeps f ↦ rw f.op (keeping (item m s.thread) (record {
-    was_freeing = f.at;
-    is_item = refl;
-    some = f.some;
-    kept = f.kept;
-    same_collected = λ b. refl;
-    same_scanned = λ x. refl;
-    next = rw (q, f.at) (taken_is (u m s.thread) (list_length m s.thread) (v m s.thread + 1) f.inside);
-  })
-      f.noted (λ i. rw q))
-  | frees f ↦ rw f.op (freeing_one (item m s.thread) (record {
-    was_freeing = f.at;
-    is_item = refl;
-    some = f.some;
-    kept = f.kept;
-    same_collected = λ b. refl;
-    same_scanned = λ x. refl;
-    next = rw (q, f.at) (taken_is (u m s.thread) (list_length m s.thread) (v m s.thread) f.inside);
-  })
-      (record { by = (refl, refl); value = refl; unnoted = f.unnoted; dead = rw (eqb_self (item m s.thread)); left = λ i. rw q }))
-  | delivers f ↦ rw f.op (still (omega arith))
-  | copies f ↦ rw f.op (still (omega arith))
-  | counts f ↦ rw f.op (still (omega arith))
-]
+      | allocates f ↦ rw f.op (still (omega arith))
+      | swaps f ↦ rw f.op (still (omega arith))
+      | loads f ↦ rw f.op (outside (record { before = omega arith; after = rw q (omega arith); list = omega arith; now = rw q (omega arith) }))
+      | reserves f ↦ rw f.op (outside (record {
+        before = omega arith;
+        after = rw q (omega arith);
+        list = omega arith;
+        now = λ _. rw (eqb_self (slot S s.thread (u m s.thread)));
+      }))
+      | checks f ↦ rw f.op (outside (record { before = omega arith; after = rw q (omega arith); list = omega arith; now = rw q (omega arith) }))
+      | uses f ↦ rw f.op (still (omega arith))
+      | clears f ↦ rw f.op (still (omega arith))
+      | retires f ↦ rw f.op (retiring s.a (refl, refl) (record {
+        was_idle = f.at;
+        some = f.some;
+        live = f.live;
+        dead = rw (eqb_self s.a);
+        longer = rw q;
+        added = λ i. rw q;
+        low = elim (either (leb S.threshold (list_length m s.thread + 1)))
+            [ holds e ↦ rw (q, e) (omega arith) | fails e ↦ rw (q, e) (omega arith) ];
+        idle_or = elim (either (leb S.threshold (list_length m s.thread + 1)))
+            [ holds e ↦ rw (q, e) (λ n. absurd (n refl)) | fails e ↦ rw (q, e) (λ _. (f.at, leb-false _ _ e)) ];
+        first = elim (either (leb S.threshold (list_length m s.thread + 1)))
+            [ holds e ↦ rw (q, e) | fails e ↦ rw (q, e) f.first ];
+        only = λ b j n. rw (ne_eqb s.thread b n);
+      }))
+      | collects f ↦ rw f.op (collecting_on (record {
+        at = f.at;
+        next = rw (q, f.at) (onward_is collecting (u m s.thread) S.threads f.inside);
+        list = omega arith;
+        noted = λ b. elim (sep (u m s.thread) b) [ same e g ↦ rw (q, g, e) | diff e g ↦ rw (q, g) ];
+        same_scanned = omega arith;
+      }))
+      | pings f ↦ rw f.op (pinging_on (record {
+        at = f.at;
+        next = rw (q, f.at) (onward_is pinging (u m s.thread) S.threads f.inside);
+        list = omega arith;
+        same_collected = omega arith;
+        same_scanned = omega arith;
+      }))
+      | waits f ↦ rw f.op (waiting_on (record {
+        at = f.at;
+        next = rw (q, f.at) (onward_is waiting (u m s.thread) S.threads f.inside);
+        list = omega arith;
+        moved = λ b n e. rw (← e) (f.moved (λ z. n (z ∙ e)));
+        same_collected = omega arith;
+        same_scanned = omega arith;
+      }))
+      | stays f ↦ rw f.op (still (omega arith))
+      | scans f ↦ rw f.op (scanning_on (record {
+        at = f.at;
+        next = rw (q, f.at) (onward_is scanning (u m s.thread) (all_slots S) f.inside);
+        list = omega arith;
+        none = f.none;
+        same_collected = omega arith;
+        noted = λ x. elim (sep (u m s.thread) x) [ same e g ↦ rw (q, g, e) | diff e g ↦ rw (q, g) ];
+      }))
+      | keeps f ↦ rw f.op (keeping (item m s.thread) (record {
+        was_freeing = f.at;
+        is_item = refl;
+        some = f.some;
+        kept = f.kept;
+        same_collected = λ b. refl;
+        same_scanned = λ x. refl;
+        next = rw (q, f.at) (taken_is (u m s.thread) (list_length m s.thread) (v m s.thread + 1) f.inside);
+      })
+          f.noted (λ i. rw q))
+      | frees f ↦ rw f.op (freeing_one (item m s.thread) (record {
+        was_freeing = f.at;
+        is_item = refl;
+        some = f.some;
+        kept = f.kept;
+        same_collected = λ b. refl;
+        same_scanned = λ x. refl;
+        next = rw (q, f.at) (taken_is (u m s.thread) (list_length m s.thread) (v m s.thread) f.inside);
+      })
+          (record { by = (refl, refl); value = refl; unnoted = f.unnoted; dead = rw (eqb_self (item m s.thread)); left = λ i. rw q }))
+      | delivers f ↦ rw f.op (still (omega arith))
+      | copies f ↦ rw f.op (still (omega arith))
+      | counts f ↦ rw f.op (still (omega arith))
+    ]
 
 -- any thread
 pub turn : {S : Settings} {m : State} {s : Step} {r : Answer} → Move S m s r → (a : ℕ) → Turn S s r.value m (next m r) a (moves_of s r.value a)

@@ -1,0 +1,7 @@
+-- The rule's two words.
+use Rattle.rules.specs.Operations.{clear}
+use Rattle.machine.proofs.operations.clear.Goals as goal
+
+pub returns : goal.returns
+unfolding clear
+returns c = cc

@@ -1,0 +1,7 @@
+-- The rule's four words.
+use Rattle.rules.specs.Operations.{load}
+use Rattle.machine.proofs.operations.load.Goals as goal
+
+pub returns : goal.returns
+unfolding load
+returns c = cc

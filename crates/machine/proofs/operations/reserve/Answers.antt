@@ -1,0 +1,7 @@
+-- The rule's three words, by the operands that it reads.
+use Rattle.rules.specs.Operations.{reserve}
+use Rattle.machine.proofs.operations.reserve.Goals as goal
+
+pub returns : goal.returns
+unfolding reserve
+returns c = cc

@@ -1,0 +1,8 @@
+-- The constant table is the definition's, by one computed test.
+use Rattle.std.proofs.Common.{refl}
+use Rattle.rules.specs.Phases.{allowed, allows}
+use Rattle.machine.proofs.refusals.allowed.Goals as goal
+
+pub returns : goal.returns
+unfolding allows allowed
+returns c = refl

@@ -1,0 +1,16 @@
+-- An arm an operation; the others list no second operand.
+use Rattle.std.proofs.Common.{arith, refl}
+use Rattle.machine.proofs.OperandLimits.{at_operation, unlisted}
+use Rattle.rules.specs.Replies.{operands}
+use Rattle.machine.proofs.refusals.limit_b.Goals as goal
+
+pub returns-in-1 : goal.returns-in-1
+unfolding operands
+returns-in-1 c = at_operation c.args.s 1 c.in-1.is refl
+
+pub returns-in-2 : goal.returns-in-2
+unfolding operands
+returns-in-2 c = at_operation c.args.s 1 c.in-2.is refl
+
+pub returns-in_default : goal.returns-in_default
+returns-in_default c = (unlisted c.args.s _ c.requires.1).1 (λ e. omega arith) (λ e. omega arith)

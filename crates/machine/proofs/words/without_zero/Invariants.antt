@@ -1,0 +1,10 @@
+-- No word passed is 0.
+use Rattle.std.proofs.Common.{◌-◌, ◌≤◌}
+use Rattle.machine.proofs.Passed.{Passed}
+use Rattle.machine.proofs.words.without_zero.Given as goal
+
+abbrev pub invariant-loop-i : goal.invariant-loop-i
+invariant-loop-i l = (l.i ≤ l.n) × Passed l.words l.p l.i
+
+abbrev pub decreases-loop-i : goal.decreases-loop-i
+decreases-loop-i l = l.n - l.i

@@ -21,17 +21,17 @@ fn package() -> PathBuf {
     PathBuf::from(env::var_os("CARGO_MANIFEST_DIR").expect("cargo names the package's folder"))
 }
 
-/// Asks for the archive of `ERNUVALD_LIB_DIR`, or of `../target/staticlib` where that isn't set.
+/// Asks for the archive of `ERNUVALD_LIB_DIR`, or of `../crates/ernuvald/out` where that isn't set.
 fn link_library() {
     println!("cargo:rerun-if-env-changed=ERNUVALD_LIB_DIR");
     let folder = match env::var_os("ERNUVALD_LIB_DIR") {
         Some(folder) => PathBuf::from(folder),
-        None => package().join("../target/staticlib"),
+        None => package().join("../crates/ernuvald/out"),
     };
     let archive = folder.join("libernuvald.a");
     assert!(
         archive.is_file(),
-        "there is no {}: build it by `rt staticlib ernuvald`, name its folder in ERNUVALD_LIB_DIR, \
+        "there is no {}: build it by `rt lib` in crates/ernuvald, name its folder in ERNUVALD_LIB_DIR, \
          or leave the library out by --no-default-features",
         archive.display()
     );

@@ -28,7 +28,7 @@ pub fn next<'s, 'a>(r: &'s mut Reader<'a>) -> Five
     step_at(r.schedule, i)
 }
 
-// Step i, by a reader: whoever calls this needs no walk.
+// Step i, by a reader: for whoever has no reader of their own.
 pub fn read_step(input: &[u8], i: usize) -> Five
     requires { Inside input.now i }
     ensures { step_in result ≡ program.given_step input.now i }

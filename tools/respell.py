@@ -36,9 +36,9 @@ def declared(text):
         m = SIGNATURE.match(code.strip())
         if m:
             names.add(m[1])
-            if data:
-                names.update(TOKEN.findall(code.split(" :")[0]))
-        data = code.lstrip().startswith(("data ", "pub data ")) or (data and code.startswith(" ") and ":" not in code)
+        if data and " : " in code:
+            names.update(TOKEN.findall(code.split(" : ")[0]))
+        data = code.lstrip().startswith(("data ", "pub data ")) or (data and (code.startswith(" ") or not code))
     return names
 
 

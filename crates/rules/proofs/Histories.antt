@@ -134,10 +134,10 @@ pub reply_is : (S : Settings) (ss : List Step) (i : ℕ) (o : Outcome) → i < l
 unfolding image_at
 reply_is S ss i o h = outcome_next ss i (fresh S) o h
 
-module _ (S : Settings) (legal-S : legal S ≡ true) (ss : List Step) where
+module _ (S : Settings) (legal_S : legal S ≡ true) (ss : List Step) where
   pub reached_at : (i : ℕ) → Reached S (image_at S ss i)
   unfolding image_at
-  reached_at i = reached_run (take i ss) (reached_fresh S legal-S)
+  reached_at i = reached_run (take i ss) (reached_fresh S legal_S)
 
   pub image_next : (i : ℕ) → i < length ss → image_at S ss (suc i) ≡ (reply_at S ss i).image
   unfolding image_at

@@ -23,25 +23,25 @@ step_of t op a b c = record { thread = t; op = op; a = a; b = b; c = c }
 
 -- what an operand is, and what it must be below: one that isn't listed is 0
 pub data Operand : Type 0 where
-  not_listed a-slot a-cell a-record : Operand
+  not_listed a_slot a_cell a_record : Operand
 
 abbrev pub limit : Settings → Operand → ℕ
 limit S not_listed = 1
-limit S a-slot = S.slots
-limit S a-cell = S.cells
-limit S a-record = S.records + 1
+limit S a_slot = S.slots
+limit S a_cell = S.cells
+limit S a_record = S.records + 1
 
 -- the operands of each operation, in their order
 unfoldable pub operands : List (List Operand)
 operands =
     []
-    ∷ (a-cell ∷ a-record ∷ a-record ∷ [])
-    ∷ (a-slot ∷ a-cell ∷ [])
+    ∷ (a_cell ∷ a_record ∷ a_record ∷ [])
+    ∷ (a_slot ∷ a_cell ∷ [])
     ∷ []
     ∷ []
-    ∷ (a-slot ∷ [])
-    ∷ (a-slot ∷ [])
-    ∷ (a-record ∷ [])
+    ∷ (a_slot ∷ [])
+    ∷ (a_slot ∷ [])
+    ∷ (a_record ∷ [])
     ∷ []
     ∷ []
     ∷ []

@@ -1,4 +1,4 @@
--- Laws on lists that the proofs of `vectors` cite.
+-- Laws on lists of words, as they are read and compared.
 use mathlib.Core.Path.{◌≡◌, sym, ◌∙◌}
 use mathlib.Core.List.{List}
 use Prim.Native.Nat.{ℕ, ◌+◌, ◌≤◌, ◌<◌}

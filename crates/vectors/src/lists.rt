@@ -9,7 +9,7 @@ use std::io::Read;
 fn answered(
     rt: &impl Print,
     file: &mut impl Read,
-    name: &str,
+    name: &[u8],
     i: usize,
     image: &[u32],
     thread: u32,
@@ -24,12 +24,12 @@ fn answered(
         false,
         name,
         i,
-        "number",
+        b"number",
         wide(machine::retired_number(image, thread)),
         wide(number),
     )?;
     let part = machine::retired(image, thread);
-    let b = tell::number(rt, a, name, i, "length", part.len(), entries.len())?;
+    let b = tell::number(rt, a, name, i, b"length", part.len(), entries.len())?;
     let c = tell::words(rt, b, name, i, part, entries)?;
     tell::end(rt, c)
 }
@@ -38,7 +38,7 @@ fn answered(
 fn on(
     rt: &impl Print,
     file: &mut impl Read,
-    name: &str,
+    name: &[u8],
     i: usize,
     image: &mut [u32],
 ) -> io::Result<Outcome> {
@@ -66,7 +66,7 @@ fn on(
     )
 }
 
-pub fn case(rt: &impl Print, file: &mut impl Read, name: &str, i: usize) -> io::Result<Outcome> {
+pub fn case(rt: &impl Print, file: &mut impl Read, name: &[u8], i: usize) -> io::Result<Outcome> {
     let mut head = [0u32; 1];
     if !read::words(file, &mut head)? {
         return Ok(Outcome::Cut);

@@ -45,7 +45,7 @@ fn case(
     rt: &impl Print,
     kind: Kind,
     file: &mut impl Read,
-    name: &str,
+    name: &[u8],
     i: usize,
 ) -> io::Result<Outcome> {
     match kind {
@@ -61,7 +61,7 @@ fn cases(
     rt: &impl Print,
     kind: Kind,
     file: &mut impl Read,
-    name: &str,
+    name: &[u8],
     n: usize,
 ) -> io::Result<Outcomes> {
     let mut differ = 0;
@@ -86,7 +86,7 @@ fn cases(
 fn report(
     rt: &impl Print,
     file: &mut impl Read,
-    name: &str,
+    name: &[u8],
     n: usize,
     outcomes: Outcomes,
 ) -> io::Result<()> {
@@ -95,30 +95,30 @@ fn report(
             if read::is_end(file)? {
                 say::total(rt, name, n, differ)
             } else {
-                say::line(rt, name, ": longer than its counts say")
+                say::line(rt, name, b": longer than its counts say")
             }
         }
-        Outcomes::Cut(i) => say::numbered_line(rt, name, ": cut short in case ", i, ""),
-        Outcomes::TooLarge(i) => say::numbered_line(rt, name, " case ", i, ": too large"),
+        Outcomes::Cut(i) => say::numbered_line(rt, name, b": cut short in case ", i, b""),
+        Outcomes::TooLarge(i) => say::numbered_line(rt, name, b" case ", i, b": too large"),
     }
 }
 
 // All cases of an open file.
-fn opened(rt: &impl Print, kind: Kind, file: &mut impl Read, name: &str) -> io::Result<()> {
+fn opened(rt: &impl Print, kind: Kind, file: &mut impl Read, name: &[u8]) -> io::Result<()> {
     let mut count = [0u32; 1];
     if read::words(file, &mut count)? {
         let n = wide(count[0]);
         let outcomes = cases(rt, kind, file, name, n)?;
         report(rt, file, name, n, outcomes)
     } else {
-        say::line(rt, name, ": cut short in its count")
+        say::line(rt, name, b": cut short in its count")
     }
 }
 
 fn file(rt: &(impl Files + Print), kind: Kind, name: &str) -> io::Result<()> {
     match fs::open(rt, name) {
-        Ok(mut file) => opened(rt, kind, &mut file, name),
-        Err(_) => say::line(rt, name, ": missing"),
+        Ok(mut file) => opened(rt, kind, &mut file, name.as_bytes()),
+        Err(_) => say::line(rt, name.as_bytes(), b": missing"),
     }
 }
 

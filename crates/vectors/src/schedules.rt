@@ -11,7 +11,7 @@ const MOST: usize = 65535;
 // Compares how many bytes are written, and each of them. Where they have no room, all that there is counts as written.
 fn compared(
     rt: &impl Print,
-    name: &str,
+    name: &[u8],
     i: usize,
     input: &[u8],
     given: &mut [u8],
@@ -21,7 +21,7 @@ fn compared(
         Written::All(n) => n,
         Written::TooShort => given.len(),
     };
-    let a = tell::number(rt, false, name, i, "length", n, expected.len())?;
+    let a = tell::number(rt, false, name, i, b"length", n, expected.len())?;
     let b = tell::bytes(rt, a, name, i, given, expected)?;
     tell::end(rt, b)
 }
@@ -30,7 +30,7 @@ fn compared(
 fn on(
     rt: &impl Print,
     file: &mut impl Read,
-    name: &str,
+    name: &[u8],
     i: usize,
     input: &mut [u8],
     expected: &mut [u8],
@@ -45,7 +45,7 @@ fn on(
     compared(rt, name, i, input, &mut given, expected)
 }
 
-pub fn case(rt: &impl Print, file: &mut impl Read, name: &str, i: usize) -> io::Result<Outcome> {
+pub fn case(rt: &impl Print, file: &mut impl Read, name: &[u8], i: usize) -> io::Result<Outcome> {
     let mut head = [0u32; 2];
     if !read::words(file, &mut head)? {
         return Ok(Outcome::Cut);

@@ -6,10 +6,10 @@ use std::io;
 use std::io::Read;
 
 // Compares how many words are needed, where the settings and the buffer are right.
-fn needed(rt: &impl Print, told: bool, name: &str, i: usize, head: &[u32; 8]) -> io::Result<bool> {
+fn needed(rt: &impl Print, told: bool, name: &[u8], i: usize, head: &[u32; 8]) -> io::Result<bool> {
     if head[7] == 0 {
         let n = image::words_needed(head[1], head[2], head[3], head[4], head[5], head[6]);
-        return tell::number(rt, told, name, i, "words needed", n, wide(head[0]));
+        return tell::number(rt, told, name, i, b"words needed", n, wide(head[0]));
     }
     Ok(told)
 }
@@ -17,14 +17,14 @@ fn needed(rt: &impl Print, told: bool, name: &str, i: usize, head: &[u32; 8]) ->
 // Compares the number and every word of a buffer that is set up.
 fn compared(
     rt: &impl Print,
-    name: &str,
+    name: &[u8],
     i: usize,
     head: &[u32; 8],
     given: &mut [u32],
     expected: &[u32],
 ) -> io::Result<Outcome> {
     let number = image::set_up(given, head[1], head[2], head[3], head[4], head[5], head[6]);
-    let a = tell::number(rt, false, name, i, "number", wide(number), wide(head[7]))?;
+    let a = tell::number(rt, false, name, i, b"number", wide(number), wide(head[7]))?;
     let b = needed(rt, a, name, i, head)?;
     let c = tell::words(rt, b, name, i, given, expected)?;
     tell::end(rt, c)
@@ -42,7 +42,7 @@ fn expected_words(file: &mut impl Read, number: u32, expected: &mut [u32]) -> io
 fn on(
     rt: &impl Print,
     file: &mut impl Read,
-    name: &str,
+    name: &[u8],
     i: usize,
     head: &[u32; 8],
     given: &mut [u32],
@@ -54,7 +54,7 @@ fn on(
     compared(rt, name, i, head, given, expected)
 }
 
-pub fn case(rt: &impl Print, file: &mut impl Read, name: &str, i: usize) -> io::Result<Outcome> {
+pub fn case(rt: &impl Print, file: &mut impl Read, name: &[u8], i: usize) -> io::Result<Outcome> {
     let mut head = [0u32; 8];
     if !read::words(file, &mut head)? {
         return Ok(Outcome::Cut);

@@ -8,7 +8,7 @@ use std::io::Read;
 // Compares the number, the value and every word after a step.
 fn compared(
     rt: &impl Print,
-    name: &str,
+    name: &[u8],
     i: usize,
     step: &[u32; 7],
     image: &mut [u32],
@@ -20,7 +20,7 @@ fn compared(
         false,
         name,
         i,
-        "number",
+        b"number",
         wide(rules::number(reply)),
         wide(step[5]),
     )?;
@@ -29,7 +29,7 @@ fn compared(
         a,
         name,
         i,
-        "value",
+        b"value",
         wide(rules::value(reply)),
         wide(step[6]),
     )?;
@@ -41,7 +41,7 @@ fn compared(
 fn on(
     rt: &impl Print,
     file: &mut impl Read,
-    name: &str,
+    name: &[u8],
     i: usize,
     image: &mut [u32],
     after: &mut [u32],
@@ -59,7 +59,7 @@ fn on(
     compared(rt, name, i, &step, image, after)
 }
 
-pub fn case(rt: &impl Print, file: &mut impl Read, name: &str, i: usize) -> io::Result<Outcome> {
+pub fn case(rt: &impl Print, file: &mut impl Read, name: &[u8], i: usize) -> io::Result<Outcome> {
     let mut head = [0u32; 1];
     if !read::words(file, &mut head)? {
         return Ok(Outcome::Cut);

@@ -6,11 +6,12 @@ use image::layout::wide;
 use std::io;
 
 // The line's beginning, or what stands between two differences.
-fn begin(rt: &impl Print, told: bool, name: &str, i: usize) -> io::Result<()> {
+fn begin(rt: &impl Print, told: bool, name: &[u8], i: usize) -> io::Result<()> {
     if told {
-        say::text(rt, "; ")
+        say::text(rt, b"; ")
     } else {
-        print!(rt; "{name} case {i}: ")
+        say::text(rt, name)?;
+        print!(rt; " case {i}: ")
     }
 }
 
@@ -23,9 +24,9 @@ fn different(rt: &impl Print, given: usize, expected: usize) -> io::Result<()> {
 pub fn number(
     rt: &impl Print,
     told: bool,
-    name: &str,
+    name: &[u8],
     i: usize,
-    what: &str,
+    what: &[u8],
     given: usize,
     expected: usize,
 ) -> io::Result<bool> {
@@ -42,9 +43,9 @@ pub fn number(
 fn at(
     rt: &impl Print,
     told: bool,
-    name: &str,
+    name: &[u8],
     i: usize,
-    what: &str,
+    what: &[u8],
     place: usize,
     given: usize,
     expected: usize,
@@ -52,7 +53,7 @@ fn at(
     begin(rt, told, name, i)?;
     say::text(rt, what)?;
     say::number(rt, place)?;
-    say::text(rt, ":")?;
+    say::text(rt, b":")?;
     different(rt, given, expected)?;
     Ok(true)
 }
@@ -91,7 +92,7 @@ fn first_byte(a: &[u8], b: &[u8]) -> usize
 pub fn words(
     rt: &impl Print,
     told: bool,
-    name: &str,
+    name: &[u8],
     i: usize,
     given: &[u32],
     expected: &[u32],
@@ -103,7 +104,7 @@ pub fn words(
             told,
             name,
             i,
-            "word ",
+            b"word ",
             k,
             wide(given[k]),
             wide(expected[k]),
@@ -120,7 +121,7 @@ fn wide_byte(x: u8) -> usize {
 pub fn bytes(
     rt: &impl Print,
     told: bool,
-    name: &str,
+    name: &[u8],
     i: usize,
     given: &[u8],
     expected: &[u8],
@@ -132,7 +133,7 @@ pub fn bytes(
             told,
             name,
             i,
-            "byte ",
+            b"byte ",
             k,
             wide_byte(given[k]),
             wide_byte(expected[k]),
@@ -144,7 +145,7 @@ pub fn bytes(
 // The end of a case.
 pub fn end(rt: &impl Print, told: bool) -> io::Result<Outcome> {
     if told {
-        say::line(rt, "", "")?;
+        say::text(rt, b"\n")?;
         return Ok(Outcome::Differs);
     }
     Ok(Outcome::Same)

@@ -12,7 +12,7 @@
  * written through `image`, which then may be a null pointer; such an image is damaged.
  *
  * Nothing is kept between calls and nothing is allocated, so any number of images may be used at once, by any threads.
- * Link with libernuvald.a (x86-64 Linux); of other libraries it needs memset alone, which the C library has.
+ * Link with libernuvald.a (x86-64 Linux, on a processor of level x86-64-v2 or above); of other libraries it needs memset alone, which the C library has.
  */
 #ifndef ERNUVALD_H
 #define ERNUVALD_H

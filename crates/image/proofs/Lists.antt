@@ -36,6 +36,10 @@ module _ {S : Settings} (lim : Limits S) (I : List ℕ) (t : ℕ) (h : t < S.thr
       let p : room S - 1 < room S = omega (arith, room_slots lim) in
       omega (arith, inside S Entry t (room S - 1) (valid (room S - 1) p), follows (room S - 1), room_slots lim)
 
+  -- so all its places stand in an image of that length, as the code counts them
+  pub list_within : {q n m : ℕ} → q ≡ address S Length t 0 → n ≡ room S → words S ≡ m → q + 1 + n ≤ m
+  list_within e d h = omega (arith, e, d, h, list_inside)
+
   -- a loop over the entries is a test over the state
   pub list_all : (f : ℕ → Bool) (q n : ℕ) {r : Bool} → q ≡ address S Length t 0 → n ≡ room S
       → r ≡ all n (λ i. f (get_or I (q + 1 + i) 0)) → r ≡ all (room S) (λ i. f (view S I Entry t i))

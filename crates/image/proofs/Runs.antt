@@ -14,8 +14,9 @@ use Rattle.rules.specs.declared.Settings.{Settings}
 use Rattle.rules.specs.Settings.{legal, settings_of, settings_words}
 use Rattle.rules.specs.Image.{sections, sizes, size, start, words, outcome}
 use Rattle.rules.specs.SetUp.{counts_section, fresh_section, fresh_up_to, fresh, set_up_number, set_up, words_needed}
-use Rattle.rules.proofs.Limits.{Limits, legal_says, start_apart, words_most}
+use Rattle.rules.proofs.Limits.{Limits, legal_says, start_apart}
 use Rattle.rules.proofs.Shaped.{words_far}
+use Rattle.image.proofs.Sections.{sum_fits}
 use Rattle.image.specs.Filled.{Filled, Begun}
 
 -- i times x after the first q words
@@ -66,7 +67,7 @@ begun_room S J ns {k} e b h l = omega (arith, b.at, start_apart S k sections h, 
 
 pub begun_fits : (S : Settings) (J ns : List ℕ) {k p : ℕ} → Limits S → ns ≡ sizes S → Begun S J k p → k < sections → length J ≡ words S
     → p + (1 + get_or ns k 0) ≤ 8209
-begun_fits S J ns m e b h l = omega (arith, begun_room S J ns e b h l, words_most m)
+begun_fits S J ns m e b h l = sum_fits S _ m h e b.at
 
 pub begun_done : (S : Settings) (J : List ℕ) {k p : ℕ} → Begun S J k p → k ≡ sections → length J ≡ words S → J ≡ fresh S
 unfolding fresh

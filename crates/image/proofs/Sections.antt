@@ -27,6 +27,10 @@ module _ (S : Settings) (k : ℕ) where
   unfolding size
   size_is e = ap (λ (l : List ℕ). get_or l k 0) e
 
+  -- where the next section starts, as a number that fits
+  pub sum_fits : {ns : List ℕ} {p : ℕ} → Limits S → k < sections → ns ≡ sizes S → p ≡ start S k → p + (1 + get_or ns k 0) ≤ 8209
+  sum_fits l h e q = omega (arith, section_most l h, q, size_is e)
+
 pub start_none : (S : Settings) → 0 ≡ start S 0
 unfolding start
 start_none S = refl

@@ -1,3 +1,4 @@
+-- Too short, settings beyond their limits, not laid out by them, or decided by its words.
 use Rattle.image.proofs.Verdicts.{illegal, limits, shaped, short, unlaid, verdict}
 use Rattle.image.proofs.damaged.Goals as goal
 

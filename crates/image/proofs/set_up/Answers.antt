@@ -1,3 +1,4 @@
+-- The settings are refused, or the length is, or the image is written section by section.
 use Rattle.std.proofs.Common.{sym, ap, ◌∙◌}
 use Rattle.image.proofs.Runs.{limits_then, long_enough, out_0, out_12, out_13}
 use Rattle.rules.specs.SetUp.{fresh_up_to}

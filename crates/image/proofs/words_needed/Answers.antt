@@ -1,3 +1,4 @@
+-- The settings as they are given.
 use Rattle.image.proofs.Runs.{words_given}
 use Rattle.image.proofs.words_needed.Goals as goal
 

@@ -1,6 +1,6 @@
 use Rattle.std.proofs.Common.{arith, ◌≡◌, ℕ, ◌+◌, Bool, ◌&&◌, List, get_or, eqb, refl}
 use Rattle.image.proofs.Loops.{begins, ends, goes_on}
-use Rattle.image.proofs.Sections.{section_end, section_inside, section_most, size_is}
+use Rattle.image.proofs.Sections.{section_end, section_inside, size_is, sum_fits}
 use Rattle.rules.proofs.Shaped.{count_right}
 use Rattle.rules.specs.Image.{sizes, start}
 use Rattle.rules.specs.Tests.{all}
@@ -24,19 +24,19 @@ loop-k-preserved c = (omega arith, λ S e. turn S c.args.words.now c.args.ns.now
 
 pub offset_bounds-words-p : goal.offset_bounds-words-p
 offset_bounds-words-p c =
-    omega (arith, (c.loop-k.invariant.1 c.args.s c.requires.1).0, section_most c.args.s c.loop-k.k c.requires.0 c.loop-k-test.true)
+    omega (arith, sum_fits c.args.s c.loop-k.k c.requires.0 c.loop-k-test.true c.requires.1 (c.loop-k.invariant.1 c.args.s c.requires.1).0)
 
 pub bounds-words-p : goal.bounds-words-p
 bounds-words-p c =
-    omega (arith, (c.loop-k.invariant.1 c.args.s c.requires.1).0, section_most c.args.s c.loop-k.k c.requires.0 c.loop-k-test.true, section_inside c.args.s c.loop-k.k c.loop-k-test.true, c.requires.2)
+    omega (arith, (c.loop-k.invariant.1 c.args.s c.requires.1).0, section_inside c.args.s c.loop-k.k c.loop-k-test.true, c.requires.2)
 
 pub overflow_add-p : goal.overflow_add-p
 overflow_add-p c =
-    omega (arith, (c.loop-k.invariant.1 c.args.s c.requires.1).0, section_most c.args.s c.loop-k.k c.requires.0 c.loop-k-test.true, size_is c.args.s c.loop-k.k c.requires.1)
+    omega (arith, sum_fits c.args.s c.loop-k.k c.requires.0 c.loop-k-test.true c.requires.1 (c.loop-k.invariant.1 c.args.s c.requires.1).0)
 
 pub overflow_add-p-in-loop-k : goal.overflow_add-p-in-loop-k
 overflow_add-p-in-loop-k c =
-    omega (arith, (c.loop-k.invariant.1 c.args.s c.requires.1).0, section_most c.args.s c.loop-k.k c.requires.0 c.loop-k-test.true, size_is c.args.s c.loop-k.k c.requires.1)
+    omega (arith, sum_fits c.args.s c.loop-k.k c.requires.0 c.loop-k-test.true c.requires.1 (c.loop-k.invariant.1 c.args.s c.requires.1).0)
 
 pub returns : goal.returns
 returns c = ends _ c.loop-k.k 11 (omega arith) (omega arith) (c.loop-k.invariant.1 c.args.s c.requires.1).1

@@ -1,3 +1,4 @@
+-- An image of another length isn't laid out; one of this length is where its counts are right.
 use Rattle.std.proofs.Common.{sym, ◌∙◌}
 use Rattle.rules.proofs.Shaped.{laid_long, laid_short}
 use Rattle.image.proofs.check.laid.Goals as goal

@@ -1,3 +1,4 @@
+-- Sections 3 and 5 hold the private slots and the marks, in the same order.
 use Rattle.std.proofs.Common.{arith, ◌≡◌, ℕ, ◌+◌, Bool, not, ◌&&◌, ◌||◌, List, get_or, eqb, leb, refl, ◌∙◌, lit<}
 use Rattle.image.proofs.Columns.{narrow, one_word_at, rows_are}
 use Rattle.image.proofs.Sections.{section_inside, section_most}

@@ -1,3 +1,4 @@
+-- The rule's four parts, one after the other.
 use Rattle.rules.specs.Damaged.{right}
 use Rattle.image.proofs.check.right.Goals as goal
 

@@ -1,3 +1,4 @@
+-- Where the next section starts, the section's words end: `at_most` tests just these.
 use Rattle.std.proofs.Common.{arith, ◌≡◌, ℕ, ◌+◌, ◌-◌, Bool, List, get_or, leb, ◌∙◌}
 use Rattle.image.proofs.Sections.{section_end, section_inside, section_most}
 use Rattle.rules.specs.Image.{size, start}

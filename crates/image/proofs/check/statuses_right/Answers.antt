@@ -1,3 +1,4 @@
+-- Section 2 holds the statuses, a word each.
 use Rattle.std.proofs.Common.{arith, ◌+◌, leb, refl, ◌∙◌}
 use Rattle.image.proofs.Columns.{narrow}
 use Rattle.rules.specs.Damaged.{statuses_right}

@@ -1,3 +1,4 @@
+-- The settings are legal and add up, or they are refused.
 use Rattle.std.proofs.Common.{sym, ◌∙◌}
 use Rattle.image.proofs.Runs.{needed_illegal, needed_legal}
 use Rattle.rules.proofs.Limits.{legal_says}

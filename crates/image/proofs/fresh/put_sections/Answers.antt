@@ -7,7 +7,6 @@ use Rattle.image.proofs.fresh.put_sections.Goals as goal
 pub loop-k-init : goal.loop-k-init
 loop-k-init c = (omega arith, omega arith, refl, λ S e q h. begun_first S _ h)
 
--- what a turn starts from
 pub fill-requires : goal.fill-requires
 fill-requires c =
     let b = c.loop-k.invariant.3 _ c.requires.1 c.requires.3 c.requires.4 in

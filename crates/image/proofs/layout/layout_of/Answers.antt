@@ -1,3 +1,4 @@
+-- The settings, the room and the starts of a shaped image.
 use Rattle.image.proofs.Stands.{laid_out}
 use Rattle.rules.proofs.Shaped.{settings_in}
 use Rattle.image.proofs.layout.layout_of.Goals as goal

@@ -1,5 +1,5 @@
 use Rattle.std.proofs.Common.{arith, ◌≡◌, ap, ◌∙◌}
-use Rattle.image.proofs.Sections.{section_most, size_is, start_more, start_none}
+use Rattle.image.proofs.Sections.{size_is, start_more, start_none, sum_fits}
 use Rattle.rules.specs.Image.{sections, start}
 use Rattle.image.proofs.layout.total.Goals as goal
 
@@ -8,11 +8,11 @@ loop-k-init c = (omega arith, λ S e. start_none S)
 
 pub overflow_add-p : goal.overflow_add-p
 overflow_add-p c =
-    omega (arith, section_most c.args.s c.loop-k.k c.requires.0 c.loop-k-test.true, c.loop-k.invariant.1 c.args.s c.requires.1, size_is c.args.s c.loop-k.k c.requires.1)
+    omega (arith, sum_fits c.args.s c.loop-k.k c.requires.0 c.loop-k-test.true c.requires.1 (c.loop-k.invariant.1 c.args.s c.requires.1))
 
 pub overflow_add-p-in-loop-k : goal.overflow_add-p-in-loop-k
 overflow_add-p-in-loop-k c =
-    omega (arith, section_most c.args.s c.loop-k.k c.requires.0 c.loop-k-test.true, c.loop-k.invariant.1 c.args.s c.requires.1, size_is c.args.s c.loop-k.k c.requires.1)
+    omega (arith, sum_fits c.args.s c.loop-k.k c.requires.0 c.loop-k-test.true c.requires.1 (c.loop-k.invariant.1 c.args.s c.requires.1))
 
 pub loop-k-preserved : goal.loop-k-preserved
 loop-k-preserved c = (omega arith, λ S e. start_more S _ (c.loop-k.invariant.1 S e) (size_is S _ e))

@@ -8,7 +8,7 @@ use native.Mathlib.Omega.{arith}
 use lib.ListN.{get_or}
 use Rattle.rules.specs.declared.Settings.{Settings}
 use Rattle.rules.specs.Tests.{all}
-use Rattle.rules.specs.State.{Kind}
+use Rattle.rules.specs.declared.Kind.{Kind}
 use Rattle.rules.specs.Image.{size, start, lay, address, within, view}
 use Rattle.rules.proofs.Laws.{all_none, all_more, all_rows, all_same}
 use Rattle.rules.proofs.Places.{Valid, read, fitting}

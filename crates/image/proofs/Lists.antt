@@ -11,7 +11,7 @@ use Rattle.rules.specs.declared.Settings.{Settings}
 use Rattle.rules.specs.Tests.{all}
 use Rattle.rules.specs.Settings.{room}
 use Rattle.rules.specs.Phases.{freeing}
-use Rattle.rules.specs.State.{Length, Entry}
+use Rattle.rules.specs.declared.Kind.TheVariants.{Length, Entry}
 use Rattle.rules.specs.Image.{words, address, within, view}
 use Rattle.rules.specs.Damaged.{in_use}
 use Rattle.rules.proofs.Laws.{all_same}

@@ -6,7 +6,8 @@ use native.Mathlib.Omega.{arith}
 use lib.ListN.{get_or}
 use Rattle.rules.specs.declared.Settings.{Settings}
 use Rattle.rules.specs.Settings.{settings, room}
-use Rattle.rules.specs.State.{Kind, Phase, U', V', W', Pending, Handler, Length}
+use Rattle.rules.specs.declared.Kind.{Kind}
+use Rattle.rules.specs.declared.Kind.TheVariants.{Phase, U, V, W, Pending, Handler, Length}
 use Rattle.rules.specs.Image.{sections, thread_words, start, lay, within, address}
 use Rattle.rules.proofs.Places.{Valid, read, inside}
 use Rattle.image.specs.declared.layout.Layout.{Layout}
@@ -33,9 +34,9 @@ module _ (l : Layout) where
   -- the six words of a thread
   pub thread_stands : (t o : ℕ) {q x p : ℕ} → t < l.settings.threads → o < thread_words → q ≡ start l.settings 7 → x ≡ t * thread_words + o → p ≡ q + 1 + x → At l (own o) t 0 p
   thread_stands t zero h g e d b = row_stands Phase t 0 (record { low = omega arith; high = omega arith; place = omega arith }) refl e refl (omega arith) b
-  thread_stands t (suc zero) h g e d b = row_stands U' t 0 (record { low = omega arith; high = omega arith; place = omega arith }) refl e refl (omega arith) b
-  thread_stands t (suc (suc zero)) h g e d b = row_stands V' t 0 (record { low = omega arith; high = omega arith; place = omega arith }) refl e refl (omega arith) b
-  thread_stands t (suc (suc (suc zero))) h g e d b = row_stands W' t 0 (record { low = omega arith; high = omega arith; place = omega arith }) refl e refl (omega arith) b
+  thread_stands t (suc zero) h g e d b = row_stands U t 0 (record { low = omega arith; high = omega arith; place = omega arith }) refl e refl (omega arith) b
+  thread_stands t (suc (suc zero)) h g e d b = row_stands V t 0 (record { low = omega arith; high = omega arith; place = omega arith }) refl e refl (omega arith) b
+  thread_stands t (suc (suc (suc zero))) h g e d b = row_stands W t 0 (record { low = omega arith; high = omega arith; place = omega arith }) refl e refl (omega arith) b
   thread_stands t (suc (suc (suc (suc zero)))) h g e d b = row_stands Pending t 0 (record { low = omega arith; high = omega arith; place = omega arith }) refl e refl (omega arith) b
   thread_stands t (suc (suc (suc (suc (suc zero))))) h g e d b = row_stands Handler t 0 (record { low = omega arith; high = omega arith; place = omega arith }) refl e refl (omega arith) b
   thread_stands t (suc (suc (suc (suc (suc (suc o)))))) h g e d b = absurd (omega arith)

@@ -1,7 +1,8 @@
 -- A layout that is right for its settings, that fits an image, and where a word stands by it.
 use Rattle.std.specs.Prelude.{◌≡◌, cond, List, ℕ, ◌≤◌, ◌<◌, length, get_or, eqb}
 use Rattle.rules.specs.Settings.{room}
-use Rattle.rules.specs.State.{Kind, Phase, U', V', W', Pending, Handler}
+use Rattle.rules.specs.declared.Kind.{Kind}
+use Rattle.rules.specs.declared.Kind.TheVariants.{Phase, U, V, W, Pending, Handler}
 use Rattle.rules.specs.Image.{sections, start, words, address, view}
 use Rattle.rules.proofs.Limits.{Limits}
 use Rattle.image.specs.declared.layout.Layout.{Layout}
@@ -25,4 +26,4 @@ pub record At (l : Layout) (k : Kind) (i j p : ℕ) : Type 0 where
 
 -- word o of a thread's six
 abbrev pub own : ℕ → Kind
-own o = cond (eqb o 0) Phase (cond (eqb o 1) U' (cond (eqb o 2) V' (cond (eqb o 3) W' (cond (eqb o 4) Pending Handler))))
+own o = cond (eqb o 0) Phase (cond (eqb o 1) U (cond (eqb o 2) V (cond (eqb o 3) W (cond (eqb o 4) Pending Handler))))

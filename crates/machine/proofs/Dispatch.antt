@@ -6,7 +6,8 @@ use Rattle.rules.specs.Settings.{room}
 use Rattle.rules.specs.Phases.{operations, phases, allows, #reserve, #check, #deliver, #handle}
 use Rattle.rules.specs.State.{State, handler, phase, u, v, list_length, entry, Answer, refused}
 use Rattle.rules.specs.Image.{view, Outcome, outcome, after}
-use Rattle.rules.specs.Replies.{Step, step_of}
+use Rattle.rules.specs.declared.Step.{Step}
+use Rattle.rules.specs.Replies.{step_of}
 use Rattle.rules.specs.Step.{perform, answer}
 use Rattle.rules.proofs.Sound.{Sound, Thread}
 use Rattle.rules.proofs.Checked.{checked, late, handling, answer_2, answer_3, answer_4, answer_5, answer_6, answer_late, Entered, entered}

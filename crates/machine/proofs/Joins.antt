@@ -6,7 +6,8 @@ use native.Mathlib.Nat.{add-sub_cancel_left}
 use Rattle.rules.specs.declared.Settings.{Settings}
 use Rattle.rules.specs.Settings.{modulus, all_slots, slot, room}
 use Rattle.rules.specs.Phases.{collecting, pinging, waiting, scanning, freeing}
-use Rattle.rules.specs.State.{Private, Published, State, cell, status, private, held, count, phase, u, v, w, pending, handler, collected, list_length, entry, when, cell≔, status≔, published≔, held≔, count≔, phase≔, u≔, v≔, pending≔, handler≔, list_length≔, entry≔, Answer}
+use Rattle.rules.specs.declared.Kind.TheVariants.{Private, Published}
+use Rattle.rules.specs.State.{State, cell, status, private, held, count, phase, u, v, w, pending, handler, collected, list_length, entry, when, cell≔, status≔, published≔, held≔, count≔, phase≔, u≔, v≔, pending≔, handler≔, list_length≔, entry≔, Answer}
 use Rattle.rules.specs.Image.{sections, size, sizes, start, within, address, view, write_all, Outcome, outcome, after}
 use Rattle.rules.specs.Damaged.{in_use}
 use Rattle.rules.specs.Operations.{lowest_free, named, allocate, swap, to_idle, check, use_slot, retire, deliver, handle}

@@ -2,7 +2,7 @@
 use Rattle.std.proofs.Common.{◌≡◌, ℕ, zero, suc, ◌+◌, ◌-◌, ◌*◌, ◌<◌, ◌≤◌, refl, ap, mul-le-mul, arith}
 use Rattle.rules.specs.declared.Settings.{Settings}
 use Rattle.rules.specs.Settings.{all_slots, room}
-use Rattle.rules.specs.State.{Cell, Status, Private, Published, Held, Count, Collected, Entry, Scanned}
+use Rattle.rules.specs.declared.Kind.TheVariants.{Cell, Status, Private, Published, Held, Count, Collected, Entry, Scanned}
 use Rattle.rules.specs.Image.{start, within, address}
 use Rattle.rules.proofs.Limits.{Limits, scanned_most}
 use Rattle.image.specs.declared.layout.Layout.{Layout}

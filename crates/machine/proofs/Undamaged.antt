@@ -4,10 +4,11 @@ use native.Mathlib.Nat.{add-sub_cancel_left}
 use borrow.Author.Tests.{not-false, lt-leb}
 use Rattle.rules.specs.declared.Settings.{Settings}
 use Rattle.rules.specs.Settings.{settings, all_slots, room}
-use Rattle.rules.specs.State.{Entry, list_length}
+use Rattle.rules.specs.declared.Kind.TheVariants.{Entry}
+use Rattle.rules.specs.State.{list_length}
 use Rattle.rules.specs.Image.{within, address, view, Outcome, outcome, after}
 use Rattle.rules.specs.Damaged.{damaged}
-use Rattle.rules.specs.Replies.{Step}
+use Rattle.rules.specs.declared.Step.{Step}
 use Rattle.rules.specs.Step.{answer, step}
 use Rattle.rules.specs.ListQuestion.{list_number, list_from, list_many, list_part}
 use Rattle.rules.proofs.Laws.{holds, fails, either}

@@ -1,7 +1,8 @@
 -- The sections that have a word for each slot, and a reclaimer's row of scanned words.
 use Rattle.std.specs.Prelude.{◌≡◌, ℕ, ◌+◌, ◌*◌, ◌<◌, ◌≤◌, cond, List, take, drop, ◌==◌, slice_index}
 use Rattle.rules.specs.Settings.{all_slots}
-use Rattle.rules.specs.State.{Kind, Private, Published, Held, Scanned}
+use Rattle.rules.specs.declared.Kind.{Kind}
+use Rattle.rules.specs.declared.Kind.TheVariants.{Private, Published, Held, Scanned}
 use Rattle.rules.specs.Image.{words, view}
 use Rattle.image.specs.declared.layout.Layout.{Layout}
 

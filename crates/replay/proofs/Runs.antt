@@ -10,7 +10,8 @@ use Rattle.rules.specs.declared.Reply.{Reply}
 use Rattle.rules.specs.Settings.{settings_of}
 use Rattle.rules.specs.Image.{words, outcome}
 use Rattle.rules.specs.SetUp.{fresh, set_up_number, set_up, words_needed}
-use Rattle.rules.specs.Replies.{Step, number_of, value_of}
+use Rattle.rules.specs.declared.Step.{Step}
+use Rattle.rules.specs.Replies.{number_of, value_of}
 use Rattle.rules.specs.Step.{step}
 use Rattle.rules.specs.Schedules.{outcomes}
 use Rattle.rules.specs.Program.{most_steps, word, given_settings, given_count, given_step, given_steps, steps_from, line, lines, accepted, refusals_among, freed, total, report, longest, ascii}

@@ -1,6 +1,7 @@
 -- A step as the code has it, and where it stands.
 use Rattle.std.specs.Prelude.{List, ℕ, ◌+◌, ◌*◌, ◌≤◌, length}
-use Rattle.rules.specs.Replies.{Step, step_of}
+use Rattle.rules.specs.declared.Step.{Step}
+use Rattle.rules.specs.Replies.{step_of}
 use Rattle.rules.specs.Program.{before_steps, step_words}
 use Rattle.replay.specs.declared.schedule.Five.{Five}
 

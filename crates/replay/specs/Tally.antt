@@ -2,7 +2,7 @@
 use Rattle.std.specs.Prelude.{◌≡◌, not, ◌&&◌, List, ℕ, ◌+◌, ◌≤◌, eqb}
 use Rattle.rules.specs.Tests.{bit}
 use Rattle.rules.specs.Phases.{#advance}
-use Rattle.rules.specs.Replies.{Step}
+use Rattle.rules.specs.declared.Step.{Step}
 use Rattle.rules.specs.Step.{step}
 use Rattle.rules.specs.Schedules.{outcomes}
 use Rattle.rules.specs.Program.{most_steps, line, lines, accepted, refusals_among, freed}

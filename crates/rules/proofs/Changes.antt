@@ -13,7 +13,7 @@ use Rattle.rules.specs.Phases.{reserved, freeing, #reserve, #clear}
 use Rattle.rules.specs.State.{State, cell, status, private, published, held, count, phase, u, v, w, handler, entry, scanned, Answer}
 use Rattle.rules.specs.Operations.{lowest_free, allocate, swap, load, reserve, to_idle, check, use_slot, clear, retire, deliver}
 use Rattle.rules.specs.Advance.{onward, collect, ping, scan, freed_on}
-use Rattle.rules.specs.Replies.{Step}
+use Rattle.rules.specs.declared.Step.{Step}
 use Rattle.rules.proofs.Laws.{same, diff, sep, holds, fails, either}
 use Rattle.rules.proofs.Writes.{puts}
 use Rattle.rules.proofs.Slots.{Row}

@@ -12,7 +12,8 @@ use Rattle.rules.specs.Phases.{operations, loaded, reserved, collecting, allows,
 use Rattle.rules.specs.State.{State, status, held, phase, pending, handler, list_length, Answer, refused}
 use Rattle.rules.specs.Operations.{lowest_free, named, allocate, swap, load, reserve, check, use_slot, clear, retire, deliver, handle}
 use Rattle.rules.specs.Advance.{advance}
-use Rattle.rules.specs.Replies.{Step, step_of, operands_fit, Ground, ◌if◌, first_given, phase_forbids, not_live, refusals, refusal}
+use Rattle.rules.specs.declared.Step.{Step}
+use Rattle.rules.specs.Replies.{step_of, operands_fit, Ground, ◌if◌, first_given, phase_forbids, not_live, refusals, refusal}
 use Rattle.rules.specs.Step.{perform, answer}
 use Rattle.rules.proofs.Laws.{tests}
 use Rattle.rules.proofs.Refused.{operand_wrong, Fitted, operands_say, allows_says}

@@ -14,7 +14,8 @@ use Rattle.rules.specs.Settings.{legal, slot}
 use Rattle.rules.specs.Phases.{reserved, #check, #use}
 use Rattle.rules.specs.State.{State, cell, status, private, held, phase, u, v, w, handler}
 use Rattle.rules.specs.Operations.{to_idle, check, use_slot}
-use Rattle.rules.specs.Replies.{Step, step_of, operands_fit, phase_forbids, not_live, refusals, refusal}
+use Rattle.rules.specs.declared.Step.{Step}
+use Rattle.rules.specs.Replies.{step_of, operands_fit, phase_forbids, not_live, refusals, refusal}
 use Rattle.rules.specs.Step.{perform}
 use Rattle.rules.specs.Demand3.{step_at, image_at, state_at, reply_at, Confirms, Overwrites, UseGives}
 use Rattle.rules.proofs.Laws.{holds, fails, either, same, diff, sep}

@@ -9,7 +9,7 @@ use lib.Dec.{eqb}
 use Rattle.rules.specs.declared.Settings.{Settings}
 use Rattle.rules.specs.Phases.{collecting, pinging, waiting, scanning, freeing}
 use Rattle.rules.specs.State.{State, private, published, count, phase, u, handler, collected, scanned}
-use Rattle.rules.specs.Replies.{Step}
+use Rattle.rules.specs.declared.Step.{Step}
 use Rattle.rules.proofs.Laws.{same, diff, sep}
 use Rattle.rules.proofs.Slots.{Row, row_one, row_fits}
 use Rattle.rules.proofs.Changes.{PublishedTurn, quiet, copied, counted}

@@ -4,7 +4,7 @@ use mathlib.Core.Bool.{true}
 use mathlib.Core.List.{List}
 use Rattle.rules.specs.declared.Settings.{Settings}
 use Rattle.rules.specs.Settings.{legal}
-use Rattle.rules.specs.Replies.{Step}
+use Rattle.rules.specs.declared.Step.{Step}
 use Rattle.rules.specs.Image.{view}
 use Rattle.rules.specs.Schedules.{reached}
 use Rattle.rules.specs.Demand3.{ConfirmedStays, ReclaimFrees, ReclaimCosts, NeverFull, StaysUndamaged}

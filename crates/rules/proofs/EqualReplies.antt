@@ -5,12 +5,16 @@ use mathlib.Core.List.{List, [], ◌∷◌}
 use Prim.Native.Nat.{ℕ, ◌+◌, ◌*◌}
 use lib.ListN.{length, get_or}
 use lib.Dec.{eqb, leb}
+use native.Mathlib.Omega.{arith}
 use Rattle.rules.specs.Tests.{bit}
 use Rattle.rules.specs.declared.Why.{Why}
 use Rattle.rules.specs.declared.Why.TheVariants.{Damaged, NoSuchOperation, NoSuchThread, OperandBeyond, HandlerRunning, PhaseForbids, NoneFree, NotLive, CellNames, ListFull, NotHeld}
-use Rattle.rules.specs.declared.Reply.{Reply}
-use Rattle.rules.specs.declared.Reply.TheVariants.{Done, Refused}
-use Rattle.rules.specs.Replies.{Step, number_of, value_of}
+use Rattle.rules.specs.declared.NoSetUp.{NoSetUp}
+use Rattle.rules.specs.declared.NoSetUp.TheVariants.{SettingBeyond, WrongLength}
+use Rattle.rules.specs.declared.Step.{Step}
+use Rattle.rules.specs.declared.Part.{Part}
+use Rattle.rules.specs.Replies.{number_of, value_of, why_number, from_of, length_of, set_up_number_of}
+use Rattle.std.specs.Prelude.{Result, Ok, Err}
 use Rattle.rules.specs.Step.{step}
 use Rattle.rules.specs.ListQuestion.{list_number, list_from, list_many, list_part}
 use Rattle.rules.specs.declared.Settings.{Settings}
@@ -37,21 +41,49 @@ set_up_equal S I p q =
     let e = parts p q in
     (e.0, e.2)
 
--- what a reply of the enum says tells which it is
-pub reply_said : (r r' : Reply) → number_of r ≡ number_of r' → value_of r ≡ value_of r' → r ≡ r'
+-- what a set-up's reply says in numbers tells which it is
+set_up_said : {A : Type 0} (r r' : Result A NoSetUp) → ((x y : A) → x ≡ y) → set_up_number_of r ≡ set_up_number_of r' → r ≡ r'
+set_up_said (Ok x) (Ok y) a e = ap Ok (a x y)
+set_up_said (Ok x) (Err SettingBeyond) a e = absurd (omega (arith, e))
+set_up_said (Ok x) (Err WrongLength) a e = absurd (omega (arith, e))
+set_up_said (Err SettingBeyond) (Ok y) a e = absurd (omega (arith, e))
+set_up_said (Err SettingBeyond) (Err SettingBeyond) a e = refl
+set_up_said (Err SettingBeyond) (Err WrongLength) a e = absurd (omega (arith, e))
+set_up_said (Err WrongLength) (Ok y) a e = absurd (omega (arith, e))
+set_up_said (Err WrongLength) (Err SettingBeyond) a e = absurd (omega (arith, e))
+set_up_said (Err WrongLength) (Err WrongLength) a e = refl
+
+pub set_up_reply_equal : {A : Type 0} → ((x y : A) → x ≡ y) → (S : Settings) (I : List ℕ) (r r' : Result A NoSetUp) {J J' : List ℕ}
+    → outcome (set_up_number_of r) 0 J ≡ set_up S I → outcome (set_up_number_of r') 0 J' ≡ set_up S I → (r ≡ r') × (J ≡ J')
+set_up_reply_equal a S I r r' p q =
+    let e = set_up_equal S I p q in
+    (set_up_said r r' a e.0, e.1)
+
+-- what a reply says in numbers tells which it is
+abbrev why_of : ℕ → Why
+why_of n = get_or (Damaged ∷ Damaged ∷ NoSuchOperation ∷ NoSuchThread ∷ OperandBeyond ∷ HandlerRunning ∷ PhaseForbids ∷ NoneFree ∷ NotLive ∷ CellNames ∷ ListFull ∷ NotHeld ∷ []) n Damaged
+
+abbrev said : {A : Type 0} (a : A) (n : ℕ) → Result A Why
+said a n = cond (eqb n 0) (Ok a) (Err (why_of n))
+
+refusal_said : {A : Type 0} (a : A) (w : Why) → said a (why_number w) ≡ Err w
+refusal_said a w = elim w as (λ w. said a (why_number w) ≡ Err w) [ Damaged ↦ refl | NoSuchOperation ↦ refl | NoSuchThread ↦ refl | OperandBeyond ↦ refl | HandlerRunning ↦ refl | PhaseForbids ↦ refl | NoneFree ↦ refl | NotLive ↦ refl | CellNames ↦ refl | ListFull ↦ refl | NotHeld ↦ refl ]
+
+pub reply_said : (r r' : Result ℕ Why) → number_of r ≡ number_of r' → value_of r ≡ value_of r' → r ≡ r'
 reply_said r r' n x = sym (replied r) ∙ rw (n, x) (replied r')
   where
-    why : ℕ → Why
-    why n = get_or (Damaged ∷ Damaged ∷ NoSuchOperation ∷ NoSuchThread ∷ OperandBeyond ∷ HandlerRunning ∷ PhaseForbids ∷ NoneFree ∷ NotLive ∷ CellNames ∷ ListFull ∷ NotHeld ∷ []) n Damaged
+    replied : (r : Result ℕ Why) → said (value_of r) (number_of r) ≡ r
+    replied (Ok x) = refl
+    replied (Err w) = refusal_said 0 w
 
-    reply : ℕ → ℕ → Reply
-    reply n x = cond (eqb n 0) (Done x) (Refused (why n))
+part_said : (r r' : Result Part Why) → number_of r ≡ number_of r' → from_of r ≡ from_of r' → length_of r ≡ length_of r' → r ≡ r'
+part_said r r' n o k = sym (parted r) ∙ rw (n, o, k) (parted r')
+  where
+    parted : (r : Result Part Why) → said (record { from = from_of r; length = length_of r }) (number_of r) ≡ r
+    parted (Ok part) = refl
+    parted (Err w) = refusal_said (record { from = 0; length = 0 }) w
 
-    replied : (r : Reply) → reply (number_of r) (value_of r) ≡ r
-    replied (Done x) = refl
-    replied (Refused w) = elim w as (λ w. reply (number_of (Refused w)) (value_of (Refused w)) ≡ Refused w) [ Damaged ↦ refl | NoSuchOperation ↦ refl | NoSuchThread ↦ refl | OperandBeyond ↦ refl | HandlerRunning ↦ refl | PhaseForbids ↦ refl | NoneFree ↦ refl | NotLive ↦ refl | CellNames ↦ refl | ListFull ↦ refl | NotHeld ↦ refl ]
-
-pub step_equal : (I : List ℕ) (s : Step) (r r' : Reply) {J J' : List ℕ} → outcome (number_of r) (value_of r) J ≡ step I s
+pub step_equal : (I : List ℕ) (s : Step) (r r' : Result ℕ Why) {J J' : List ℕ} → outcome (number_of r) (value_of r) J ≡ step I s
     → outcome (number_of r') (value_of r') J' ≡ step I s → (r ≡ r') × (J ≡ J')
 step_equal I s r r' p q =
     let e = parts p q in
@@ -69,6 +101,12 @@ retired_equal I t b p e d = (e.0 ∙ sym d.0, e.1 ∙ sym d.1, e.2 ∙ sym d.2)
 pub retired_at_equal : (I : List ℕ) (t : ℕ) {n n' o o' k k' : ℕ} → (n ≡ list_number I t) × (o ≡ list_from I t) × (k ≡ list_many I t)
     → (n' ≡ list_number I t) × (o' ≡ list_from I t) × (k' ≡ list_many I t) → (n ≡ n') × (o ≡ o') × (k ≡ k')
 retired_at_equal I t e d = (e.0 ∙ sym d.0, e.1 ∙ sym d.1, e.2 ∙ sym d.2)
+
+-- and as a result that holds the part
+pub retired_at_reply_equal : (I : List ℕ) (t : ℕ) (r r' : Result Part Why)
+    → (number_of r ≡ list_number I t) × (from_of r ≡ list_from I t) × (length_of r ≡ list_many I t)
+    → (number_of r' ≡ list_number I t) × (from_of r' ≡ list_from I t) × (length_of r' ≡ list_many I t) → r ≡ r'
+retired_at_reply_equal I t r r' p q = part_said r r' (p.0 ∙ sym q.0) (p.1 ∙ sym q.1) (p.2 ∙ sym q.2)
 
 -- For C: ernuvald_words, ernuvald_set_up and ernuvald_retired ensure what words_needed, set_up and retired_at do. A step's
 -- reply is two numbers there, and damage is one.

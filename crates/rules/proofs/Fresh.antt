@@ -13,7 +13,8 @@ use borrow.Author.Tests.{eq-eqb, le-leb, le-ltb}
 use Rattle.rules.specs.declared.Settings.{Settings}
 use Rattle.rules.specs.Tests.{all}
 use Rattle.rules.specs.Settings.{legal, settings_words, settings}
-use Rattle.rules.specs.State.{State, Kind}
+use Rattle.rules.specs.declared.Kind.{Kind}
+use Rattle.rules.specs.State.{State}
 use Rattle.rules.specs.Image.{sections, sizes, size, start, words, lay, within, address, is_word, view}
 use Rattle.rules.specs.Damaged.{laid, records_right, statuses_right, marks_right, in_use, entries_right, phase_line, thread_right, right, undamaged, damaged}
 use Rattle.rules.specs.SetUp.{counts_section, fresh_section, fresh_up_to, fresh}

@@ -15,7 +15,8 @@ use Rattle.rules.specs.State.{State, w}
 use Rattle.rules.specs.Image.{view, words, Outcome}
 use Rattle.rules.specs.Damaged.{undamaged}
 use Rattle.rules.specs.SetUp.{fresh}
-use Rattle.rules.specs.Replies.{Step, refusal}
+use Rattle.rules.specs.declared.Step.{Step}
+use Rattle.rules.specs.Replies.{refusal}
 use Rattle.rules.specs.Step.{perform, step, marks_empty}
 use Rattle.rules.specs.Schedules.{outcomes, run}
 use Rattle.rules.specs.Demand3.{step_at, image_at, state_at, reply_at, moving}

@@ -6,7 +6,8 @@ use native.Mathlib.Omega.{arith}
 use Rattle.rules.specs.declared.Settings.{Settings}
 use Rattle.rules.specs.Settings.{all_slots, slot, room}
 use Rattle.rules.specs.Phases.{reserved, freeing}
-use Rattle.rules.specs.State.{Cell, Private, Published, Held, Phase, Length, Entry, State, cell, status, private, published, held, phase, u, v, w, handler, list_length, entry, scanned}
+use Rattle.rules.specs.declared.Kind.TheVariants.{Cell, Private, Published, Held, Phase, Length, Entry}
+use Rattle.rules.specs.State.{State, cell, status, private, published, held, phase, u, v, w, handler, list_length, entry, scanned}
 use Rattle.rules.specs.Image.{view}
 use Rattle.rules.specs.SetUp.{fresh}
 use Rattle.rules.proofs.Limits.{Limits, room_slots}

@@ -10,7 +10,7 @@ use Rattle.rules.specs.declared.Settings.{Settings}
 use Rattle.rules.specs.Settings.{all_slots, slot, room}
 use Rattle.rules.specs.Phases.{idle, reserved, collecting, freeing}
 use Rattle.rules.specs.State.{State, cell, status, private, published, held, phase, u, v, w, handler, list_length, entry, scanned, Answer}
-use Rattle.rules.specs.Replies.{Step}
+use Rattle.rules.specs.declared.Step.{Step}
 use Rattle.rules.proofs.Laws.{same, diff, sep}
 use Rattle.rules.proofs.Limits.{Limits, room_slots, room_threshold}
 use Rattle.rules.proofs.Sound.{Sound}

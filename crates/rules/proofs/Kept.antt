@@ -12,12 +12,15 @@ use borrow.Author.Tests.{eqb-true, eqb-false, eq-eqb, ne_eqb}
 use Rattle.rules.specs.declared.Settings.{Settings}
 use Rattle.rules.specs.Settings.{slot, all_slots, settings}
 use Rattle.rules.specs.Phases.{idle, reserved, collecting, waiting, scanning, freeing, #check}
-use Rattle.rules.specs.State.{Kind, Cell, Status, Private, Published, Held, Phase, U', V', W', Pending, Handler, Length, Entry, Scanned, State, cell, private, held, phase, u, v, w, list_length, entry, Write, Answer}
+use Rattle.rules.specs.declared.Kind.{Kind}
+use Rattle.rules.specs.declared.Kind.TheVariants.{Cell, Status, Private, Published, Held, Phase, U, V, W, Pending, Handler, Length, Entry, Scanned}
+use Rattle.rules.specs.State.{State, cell, private, held, phase, u, v, w, list_length, entry, Write, Answer}
 use Rattle.rules.specs.Image.{view, write_all}
 use Rattle.rules.specs.Damaged.{right, undamaged, damaged}
 use Rattle.rules.specs.Operations.{allocate, swap, load, reserve, to_idle, check, use_slot, clear, retire, deliver}
 use Rattle.rules.specs.Advance.{onward, collect, ping, scan, freed_on}
-use Rattle.rules.specs.Replies.{Step, refusal}
+use Rattle.rules.specs.declared.Step.{Step}
+use Rattle.rules.specs.Replies.{refusal}
 use Rattle.rules.specs.Step.{perform, marks_empty, step}
 use Rattle.rules.proofs.Laws.{same, diff, sep, holds, fails, either, and_says, and_fails, tests}
 use Rattle.rules.proofs.Limits.{Limits, in_row}
@@ -176,7 +179,7 @@ module _ (S : Settings) (m : State) (s : Step) (l : Limits S) (h : Sound S m) (b
         | yes e ↦ rw e (effect d).0
         | no n ↦
             let same : (k : Kind) → own (tag k) ≡ true → (j : ℕ) → puts m ans.writes k a j ≡ m k a j = λ k e j. other_row (λ z. n (sym z)) k e j ans.writes (rows_own d) m in
-            rw (same Length refl 0, same Phase refl 0, same U' refl 0, same V' refl 0, same W' refl 0, fun_ext (same Entry refl)) (thread_row (h.threads a o))
+            rw (same Length refl 0, same Phase refl 0, same U refl 0, same V refl 0, same W refl 0, fun_ext (same Entry refl)) (thread_row (h.threads a o))
       ]
 
 module _ (S : Settings) (m : State) (s : Step) (l : Limits S) (h : Sound S m) (e : refusal S m s ≡ 0) where

@@ -12,10 +12,13 @@ use Rattle.rules.specs.declared.Settings.{Settings}
 use Rattle.rules.specs.Tests.{some}
 use Rattle.rules.specs.Settings.{modulus, all_slots, slot, room}
 use Rattle.rules.specs.Phases.{operations, idle, loaded, reserved, collecting, pinging, waiting, scanning, freeing, #allocate, #swap, #load, #reserve, #check, #use, #clear, #retire, #advance, #deliver, #handle}
-use Rattle.rules.specs.State.{Kind, Count, Pending, State, cell, status, private, count, phase, u, v, w, handler, collected, list_length, entry, scanned, status≔, published≔, count≔, handler≔, entry≔, Write, Answer, done}
+use Rattle.rules.specs.declared.Kind.{Kind}
+use Rattle.rules.specs.declared.Kind.TheVariants.{Count, Pending}
+use Rattle.rules.specs.State.{State, cell, status, private, count, phase, u, v, w, handler, collected, list_length, entry, scanned, status≔, published≔, count≔, handler≔, entry≔, Write, Answer, done}
 use Rattle.rules.specs.Operations.{lowest_free, named, allocate, swap, load, reserve, to_idle, check, use_slot, clear, retire, deliver, handle}
 use Rattle.rules.specs.Advance.{onward, collect, ping, wait, scan, freed_on, noted, free, advance}
-use Rattle.rules.specs.Replies.{Step, step_of}
+use Rattle.rules.specs.declared.Step.{Step}
+use Rattle.rules.specs.Replies.{step_of}
 use Rattle.rules.specs.Step.{perform}
 use Rattle.rules.proofs.Laws.{same, diff, sep, Either, holds, fails, either, end, ◌▸◌, case_of, tests}
 use Rattle.rules.proofs.Writes.{tag, put, puts}

@@ -10,7 +10,8 @@ use Rattle.rules.specs.Settings.{slot, room}
 use Rattle.rules.specs.Phases.{operations, reserved, idle, allows, #allocate, #use, #retire}
 use Rattle.rules.specs.State.{State, held, phase, handler, list_length}
 use Rattle.rules.specs.Operations.{lowest_free, named}
-use Rattle.rules.specs.Replies.{Step, operands_fit, phase_forbids, not_live, refusals, refusal}
+use Rattle.rules.specs.declared.Step.{Step}
+use Rattle.rules.specs.Replies.{operands_fit, phase_forbids, not_live, refusals, refusal}
 use Rattle.rules.proofs.Refused.{allows_says}
 use Rattle.rules.proofs.Laws.{holds, fails, either, tests}
 

@@ -10,7 +10,8 @@ use lib.Dec.{leb, ltb}
 use borrow.Author.Tests.{leb-true, leb-false, ltb-true, ltb-false, le-leb, lt-ltb}
 use Rattle.rules.specs.declared.Settings.{Settings}
 use Rattle.rules.specs.Settings.{all_slots, room}
-use Rattle.rules.specs.State.{Kind, Cell, Status, Private, Published, Held, Count, Phase, U', V', W', Pending, Handler, Collected, Length, Entry, Scanned}
+use Rattle.rules.specs.declared.Kind.{Kind}
+use Rattle.rules.specs.declared.Kind.TheVariants.{Cell, Status, Private, Published, Held, Count, Phase, U, V, W, Pending, Handler, Collected, Length, Entry, Scanned}
 use Rattle.rules.specs.Image.{sections, sizes, size, start, words, lay, within, address, is_word, view}
 use Rattle.rules.proofs.Laws.{three, Either, holds, fails, either}
 use Rattle.rules.proofs.Limits.{in_row, start_apart}
@@ -48,7 +49,7 @@ module _ (S : Settings) where
 
   pub fitting : (k : Kind) → Fitting k
   unfolding size sizes
-  fitting k = elim k as (λ k. Fitting k) [ Cell ↦ omega arith | Status ↦ omega arith | Private ↦ omega arith | Published ↦ omega arith | Held ↦ omega arith | Count ↦ omega arith | Phase ↦ omega arith | U' ↦ omega arith | V' ↦ omega arith | W' ↦ omega arith | Pending ↦ omega arith | Handler ↦ omega arith | Collected ↦ omega arith | Length ↦ omega arith | Entry ↦ omega arith | Scanned ↦ omega arith ]
+  fitting k = elim k as (λ k. Fitting k) [ Cell ↦ omega arith | Status ↦ omega arith | Private ↦ omega arith | Published ↦ omega arith | Held ↦ omega arith | Count ↦ omega arith | Phase ↦ omega arith | U ↦ omega arith | V ↦ omega arith | W ↦ omega arith | Pending ↦ omega arith | Handler ↦ omega arith | Collected ↦ omega arith | Length ↦ omega arith | Entry ↦ omega arith | Scanned ↦ omega arith ]
 
   pub inside_section : (k : Kind) (i j : ℕ) → Valid S k i j → within S k i j < size S (lay S k).section
   unfolding within

@@ -15,7 +15,7 @@ use Rattle.rules.specs.Settings.{settings_count, legal}
 use Rattle.rules.specs.Image.{Outcome}
 use Rattle.rules.specs.SetUp.{fresh}
 use Rattle.rules.specs.Phases.{#advance}
-use Rattle.rules.specs.Replies.{Step}
+use Rattle.rules.specs.declared.Step.{Step}
 use Rattle.rules.specs.Step.{step}
 use Rattle.rules.specs.Schedules.{outcomes}
 use Rattle.rules.specs.Program.{most_steps, step_words, before_steps, word, given_settings, given_count, given_step, given_steps, steps_from, is_schedule, ascii, digits, decimal, line, lines, accepted, freed, refusals_among, total, report, output, longest}

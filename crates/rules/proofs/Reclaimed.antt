@@ -12,8 +12,9 @@ use Rattle.rules.specs.declared.Settings.{Settings}
 use Rattle.rules.specs.Tests.{bit}
 use Rattle.rules.specs.Settings.{legal, all_slots}
 use Rattle.rules.specs.Phases.{idle, collecting, #retire}
-use Rattle.rules.specs.State.{Phase, State, phase, u, list_length, entry}
-use Rattle.rules.specs.Replies.{Step}
+use Rattle.rules.specs.declared.Kind.TheVariants.{Phase}
+use Rattle.rules.specs.State.{State, phase, u, list_length, entry}
+use Rattle.rules.specs.declared.Step.{Step}
 use Rattle.rules.specs.Schedules.{run}
 use Rattle.rules.specs.Demand3.{step_at, image_at, state_at, Does, Ends, Reclaim, SlotNames, Frees, FreedBetween, moving, moves}
 use Rattle.rules.proofs.Fresh.{fresh_zero}

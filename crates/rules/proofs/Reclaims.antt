@@ -12,7 +12,7 @@ use Rattle.rules.specs.Tests.{bit}
 use Rattle.rules.specs.Settings.{all_slots}
 use Rattle.rules.specs.Phases.{idle, collecting, pinging, waiting, scanning, freeing, #advance}
 use Rattle.rules.specs.State.{State, status, private, phase, u, v, list_length, entry, Answer}
-use Rattle.rules.specs.Replies.{Step}
+use Rattle.rules.specs.declared.Step.{Step}
 use Rattle.rules.proofs.Laws.{same, diff, sep}
 use Rattle.rules.proofs.Slots.{Row, row_fits, row_at}
 use Rattle.rules.proofs.Moves.{among, Move}

@@ -18,7 +18,8 @@ use Rattle.rules.specs.Image.{view}
 use Rattle.rules.specs.Damaged.{damaged}
 use Rattle.rules.specs.Operations.{lowest_free, named, allocate, swap, load, reserve, check, use_slot, clear, retire, deliver, handle}
 use Rattle.rules.specs.Advance.{collect, ping, wait, scan, free, advance}
-use Rattle.rules.specs.Replies.{Step, operands, fits, operands_fit, Ground, first_given, phase_forbids, not_live, refusals, refusal}
+use Rattle.rules.specs.declared.Step.{Step}
+use Rattle.rules.specs.Replies.{operands, fits, operands_fit, Ground, first_given, phase_forbids, not_live, refusals, refusal}
 use Rattle.rules.specs.Step.{perform, answer, step}
 use Rattle.rules.proofs.Laws.{both, holds, fails, either, tests}
 

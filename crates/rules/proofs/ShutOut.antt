@@ -15,7 +15,8 @@ use Rattle.rules.specs.SetUp.{fresh_section, fresh_up_to, fresh}
 use Rattle.rules.specs.Phases.{freeing, allowed, allows, #allocate, #retire, #advance}
 use Rattle.rules.specs.Operations.{lowest_free, named, allocate, swap, load, reserve, to_idle, check, use_slot, clear, retire, deliver, handle}
 use Rattle.rules.specs.Advance.{onward, collect, ping, wait, seen, scan, freed_on, noted, free, advance}
-use Rattle.rules.specs.Replies.{Step, step_of, operands, fits, operands_fit, phase_forbids, not_live, refusals, refusal}
+use Rattle.rules.specs.declared.Step.{Step}
+use Rattle.rules.specs.Replies.{step_of, operands, fits, operands_fit, phase_forbids, not_live, refusals, refusal}
 use Rattle.rules.specs.Step.{perform, answer, step}
 use Rattle.rules.specs.Schedules.{run, reached}
 

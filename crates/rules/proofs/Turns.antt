@@ -10,10 +10,12 @@ use borrow.Author.Tests.{ne_eqb, leb-false}
 use Rattle.rules.specs.declared.Settings.{Settings}
 use Rattle.rules.specs.Settings.{all_slots, slot}
 use Rattle.rules.specs.Phases.{idle, reserved, collecting, pinging, waiting, scanning, freeing, #retire, #advance}
-use Rattle.rules.specs.State.{Kind, Phase, U', V', W', Collected, Length, Entry, Scanned, State, status, private, published, count, phase, u, v, w, collected, list_length, entry, scanned, Answer}
+use Rattle.rules.specs.declared.Kind.{Kind}
+use Rattle.rules.specs.declared.Kind.TheVariants.{Phase, U, V, W, Collected, Length, Entry, Scanned}
+use Rattle.rules.specs.State.{State, status, private, published, count, phase, u, v, w, collected, list_length, entry, scanned, Answer}
 use Rattle.rules.specs.Operations.{allocate, swap, load, reserve, to_idle, check, use_slot, clear, retire, deliver}
 use Rattle.rules.specs.Advance.{onward, collect, ping, scan, seen, freed_on}
-use Rattle.rules.specs.Replies.{Step}
+use Rattle.rules.specs.declared.Step.{Step}
 use Rattle.rules.proofs.Laws.{same, diff, sep, holds, fails, either}
 use Rattle.rules.proofs.Writes.{tag}
 use Rattle.rules.proofs.Moves.{own, rows_own, other_row, Among, item, Move, allocates, swaps, loads, reserves, checks, uses, clears, retires, collects, pings, waits, stays, scans, keeps, frees, delivers, copies, counts}
@@ -234,9 +236,9 @@ turn {m = m} {s = s} {r = r} mv a = elim (sep s.thread a) [
   | diff n g ↦ rw g (still (record {
     list = record { same_length = other n Length refl 0; same_entries = other n Entry refl };
     same_phase = other n Phase refl 0;
-    same_item = other n U' refl 0;
-    same_kept = other n V' refl 0;
-    same_record = other n W' refl 0;
+    same_item = other n U refl 0;
+    same_kept = other n V refl 0;
+    same_record = other n W refl 0;
     same_collected = other n Collected refl;
     same_scanned = other n Scanned refl;
   }))

@@ -6,10 +6,13 @@ use native.Mathlib.Omega.{arith}
 use lib.Dec.{eqb}
 use Rattle.rules.specs.declared.Settings.{Settings}
 use Rattle.rules.specs.Settings.{slot, all_slots, room}
-use Rattle.rules.specs.State.{Kind, Cell, Status, Private, Published, Held, Count, Phase, U', V', W', Pending, Handler, Collected, Length, Entry, Scanned, State, u, handler, list_length, entry, Write, Answer}
+use Rattle.rules.specs.declared.Kind.{Kind}
+use Rattle.rules.specs.declared.Kind.TheVariants.{Cell, Status, Private, Published, Held, Count, Phase, U, V, W, Pending, Handler, Collected, Length, Entry, Scanned}
+use Rattle.rules.specs.State.{State, u, handler, list_length, entry, Write, Answer}
 use Rattle.rules.specs.Operations.{allocate, swap, load, reserve, to_idle, check, use_slot, clear, retire, deliver}
 use Rattle.rules.specs.Advance.{onward, collect, ping, seen, scan, freed_on}
-use Rattle.rules.specs.Replies.{Step, refusal}
+use Rattle.rules.specs.declared.Step.{Step}
+use Rattle.rules.specs.Replies.{refusal}
 use Rattle.rules.specs.Step.{perform}
 use Rattle.rules.proofs.Laws.{holds, fails, either}
 use Rattle.rules.proofs.Limits.{in_row}
@@ -28,9 +31,9 @@ most S Published x = S.records
 most S Held x = 1
 most S Count x = x
 most S Phase x = x
-most S U' x = x
-most S V' x = x
-most S W' x = x
+most S U x = x
+most S V x = x
+most S W x = x
 most S Pending x = 1
 most S Handler x = S.slots + 1
 most S Collected x = x

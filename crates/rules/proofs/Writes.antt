@@ -12,7 +12,9 @@ use lib.Dec.{eqb, leb}
 use borrow.Author.Tests.{eqb-true, eq-eqb, leb-true, leb-false}
 use Rattle.rules.specs.declared.Settings.{Settings}
 use Rattle.rules.specs.Settings.{settings_count, settings}
-use Rattle.rules.specs.State.{Kind, Cell, Status, Private, Published, Held, Count, Phase, U', V', W', Pending, Handler, Collected, Length, Entry, Scanned, State, Write}
+use Rattle.rules.specs.declared.Kind.{Kind}
+use Rattle.rules.specs.declared.Kind.TheVariants.{Cell, Status, Private, Published, Held, Count, Phase, U, V, W, Pending, Handler, Collected, Length, Entry, Scanned}
+use Rattle.rules.specs.State.{State, Write}
 use Rattle.rules.specs.Image.{sizes, size, start, words, lay, within, address, is_word, view, write, write_all}
 use Rattle.rules.specs.Damaged.{laid}
 use Rattle.rules.proofs.Laws.{both, both_yes, Either, holds, fails, either}
@@ -28,9 +30,9 @@ tag Published = 3
 tag Held = 4
 tag Count = 5
 tag Phase = 6
-tag U' = 7
-tag V' = 8
-tag W' = 9
+tag U = 7
+tag V = 8
+tag W = 9
 tag Pending = 10
 tag Handler = 11
 tag Collected = 12
@@ -39,10 +41,10 @@ tag Entry = 14
 tag Scanned = 15
 
 abbrev tagged : ℕ → Kind
-tagged n = get_or (Cell ∷ Status ∷ Private ∷ Published ∷ Held ∷ Count ∷ Phase ∷ U' ∷ V' ∷ W' ∷ Pending ∷ Handler ∷ Collected ∷ Length ∷ Entry ∷ Scanned ∷ []) n Cell
+tagged n = get_or (Cell ∷ Status ∷ Private ∷ Published ∷ Held ∷ Count ∷ Phase ∷ U ∷ V ∷ W ∷ Pending ∷ Handler ∷ Collected ∷ Length ∷ Entry ∷ Scanned ∷ []) n Cell
 
 untag : (k : Kind) → tagged (tag k) ≡ k
-untag k = elim k as (λ k. tagged (tag k) ≡ k) [ Cell ↦ refl | Status ↦ refl | Private ↦ refl | Published ↦ refl | Held ↦ refl | Count ↦ refl | Phase ↦ refl | U' ↦ refl | V' ↦ refl | W' ↦ refl | Pending ↦ refl | Handler ↦ refl | Collected ↦ refl | Length ↦ refl | Entry ↦ refl | Scanned ↦ refl ]
+untag k = elim k as (λ k. tagged (tag k) ≡ k) [ Cell ↦ refl | Status ↦ refl | Private ↦ refl | Published ↦ refl | Held ↦ refl | Count ↦ refl | Phase ↦ refl | U ↦ refl | V ↦ refl | W ↦ refl | Pending ↦ refl | Handler ↦ refl | Collected ↦ refl | Length ↦ refl | Entry ↦ refl | Scanned ↦ refl ]
 
 same_tag : (k k' : Kind) → tag k ≡ tag k' → k ≡ k'
 same_tag k k' e = sym (untag k) ∙ ap tagged e ∙ untag k'
@@ -110,7 +112,7 @@ module _ (S : Settings) where
     number : (j : ℕ) → j < (lay S k).span → tag k ≡ min (before (lay S k).section + ((lay S k).offset + j)) (before (suc (lay S k).section) - 1)
 
   told : (k : Kind) → Told k
-  told k = elim k as (λ k. Told k) [ Cell ↦ omega arith | Status ↦ omega arith | Private ↦ omega arith | Published ↦ omega arith | Held ↦ omega arith | Count ↦ omega arith | Phase ↦ omega arith | U' ↦ omega arith | V' ↦ omega arith | W' ↦ omega arith | Pending ↦ omega arith | Handler ↦ omega arith | Collected ↦ omega arith | Length ↦ omega arith | Entry ↦ omega arith | Scanned ↦ omega arith ]
+  told k = elim k as (λ k. Told k) [ Cell ↦ omega arith | Status ↦ omega arith | Private ↦ omega arith | Published ↦ omega arith | Held ↦ omega arith | Count ↦ omega arith | Phase ↦ omega arith | U ↦ omega arith | V ↦ omega arith | W ↦ omega arith | Pending ↦ omega arith | Handler ↦ omega arith | Collected ↦ omega arith | Length ↦ omega arith | Entry ↦ omega arith | Scanned ↦ omega arith ]
 
   -- an index is in one section, with its count or with its words
   abbrev In : ℕ → ℕ → Type 0

@@ -3,11 +3,13 @@ use Rattle.std.specs.Prelude.{Bool, true, false, cond, not, ◌&&◌, ◌||◌, 
 use Rattle.rules.specs.declared.Settings.{Settings}
 use Rattle.rules.specs.Tests.{same}
 use Rattle.rules.specs.Settings.{settings_of}
-use Rattle.rules.specs.State.{Kind, Cell, Status, Private, Count, Pending, Collected, Length, Entry}
+use Rattle.rules.specs.declared.Kind.{Kind}
+use Rattle.rules.specs.declared.Kind.TheVariants.{Cell, Status, Private, Count, Pending, Collected, Length, Entry}
 use Rattle.rules.specs.Image.{view, Outcome}
 use Rattle.rules.specs.SetUp.{fresh}
 use Rattle.rules.specs.Phases.{#allocate, #swap, #load, #reserve, #check, #use, #retire, #advance, #deliver, #handle}
-use Rattle.rules.specs.Replies.{Step, step_of}
+use Rattle.rules.specs.declared.Step.{Step}
+use Rattle.rules.specs.Replies.{step_of}
 use Rattle.rules.specs.Step.{step}
 
 -- a step with the reply that is expected

@@ -9,7 +9,8 @@ use Rattle.rules.specs.Phases.{idle, collecting, freeing, #reserve, #check, #use
 use Rattle.rules.specs.State.{State, status, private, phase, u, w, list_length, entry}
 use Rattle.rules.specs.Image.{view, Outcome}
 use Rattle.rules.specs.Damaged.{damaged}
-use Rattle.rules.specs.Replies.{Step, step_of}
+use Rattle.rules.specs.declared.Step.{Step}
+use Rattle.rules.specs.Replies.{step_of}
 use Rattle.rules.specs.Step.{step, marks_empty}
 use Rattle.rules.specs.Schedules.{reached}
 

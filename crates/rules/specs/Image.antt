@@ -2,7 +2,9 @@
 use Rattle.std.specs.Prelude.{Bool, cond, ◌&&◌, List, [], ◌∷◌, ℕ, zero, suc, ◌+◌, ◌*◌, ◌-◌, get_or, set, leb, ltb}
 use Rattle.rules.specs.declared.Settings.{Settings}
 use Rattle.rules.specs.Settings.{settings_count, all_slots, room}
-use Rattle.rules.specs.State.{Kind, Cell, Status, Private, Published, Held, Count, Phase, U', V', W', Pending, Handler, Collected, Length, Entry, Scanned, State, Write, Answer}
+use Rattle.rules.specs.declared.Kind.{Kind}
+use Rattle.rules.specs.declared.Kind.TheVariants.{Cell, Status, Private, Published, Held, Count, Phase, U, V, W, Pending, Handler, Collected, Length, Entry, Scanned}
+use Rattle.rules.specs.State.{State, Write, Answer}
 
 -- how many sections there are; how many words a thread has in its section
 abbrev pub sections : ℕ
@@ -62,9 +64,9 @@ lay S Published = lay_of 4 0 (all_slots S) 1 0 1
 lay S Held = lay_of 5 0 (all_slots S) 1 0 1
 lay S Count = lay_of 6 0 S.threads 1 0 1
 lay S Phase = lay_of 7 0 S.threads thread_words 0 1
-lay S U' = lay_of 7 0 S.threads thread_words 1 1
-lay S V' = lay_of 7 0 S.threads thread_words 2 1
-lay S W' = lay_of 7 0 S.threads thread_words 3 1
+lay S U = lay_of 7 0 S.threads thread_words 1 1
+lay S V = lay_of 7 0 S.threads thread_words 2 1
+lay S W = lay_of 7 0 S.threads thread_words 3 1
 lay S Pending = lay_of 7 0 S.threads thread_words 4 1
 lay S Handler = lay_of 7 0 S.threads thread_words 5 1
 lay S Collected = lay_of 8 0 S.threads S.threads 0 S.threads

@@ -2,7 +2,8 @@
 use Rattle.std.specs.Prelude.{cond, List, ℕ, take, drop, eqb, leb}
 use Rattle.rules.specs.declared.Settings.{Settings}
 use Rattle.rules.specs.Settings.{settings}
-use Rattle.rules.specs.State.{Entry, list_length}
+use Rattle.rules.specs.declared.Kind.TheVariants.{Entry}
+use Rattle.rules.specs.State.{list_length}
 use Rattle.rules.specs.Image.{address, view}
 use Rattle.rules.specs.Damaged.{damaged}
 

@@ -8,7 +8,8 @@ use Rattle.rules.specs.Settings.{settings_count, settings_of, legal}
 use Rattle.rules.specs.Image.{Outcome}
 use Rattle.rules.specs.SetUp.{fresh}
 use Rattle.rules.specs.Phases.{#advance}
-use Rattle.rules.specs.Replies.{Step, step_of}
+use Rattle.rules.specs.declared.Step.{Step}
+use Rattle.rules.specs.Replies.{step_of}
 use Rattle.rules.specs.Schedules.{outcomes}
 
 -- the most steps that a schedule has, and the words of a step

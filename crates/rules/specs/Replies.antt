@@ -1,23 +1,22 @@
 -- 01, Replies by number: 2 to 11, tested in its order. And what the code's answer, an enum, says in these terms.
-use Rattle.std.specs.Prelude.{Bool, cond, not, ◌&&◌, ◌||◌, List, [], ◌∷◌, ℕ, ◌+◌, get_or, eqb, leb, ltb}
+use Rattle.std.specs.Prelude.{◌≡◌, Bool, cond, not, ◌&&◌, ◌||◌, List, [], ◌∷◌, ℕ, ◌+◌, ◌≤◌, get_or, eqb, leb, ltb, Result, Ok, Err, MatchResult}
 use Rattle.rules.specs.declared.Settings.{Settings}
+use Rattle.rules.specs.declared.Step.{Step}
+use Rattle.rules.specs.declared.Operation.{Operation}
+use Rattle.rules.specs.declared.Operation.TheVariants.{Allocate, Swap, Load, Reserve, Check, Use, Clear, Retire, Advance, Deliver, Handle}
+use Rattle.rules.specs.declared.Phase.{Phase}
+use Rattle.rules.specs.declared.Phase.TheVariants.{Idle, Loaded, Reserved, Collecting, Pinging, Waiting, Scanning, Freeing}
 use Rattle.rules.specs.declared.Why.{Why}
 use Rattle.rules.specs.declared.Why.TheVariants.{Damaged, NoSuchOperation, NoSuchThread, OperandBeyond, HandlerRunning, PhaseForbids, NoneFree, NotLive, CellNames, ListFull, NotHeld}
-use Rattle.rules.specs.declared.Reply.{Reply}
-use Rattle.rules.specs.declared.Reply.TheVariants.{Done, Refused}
+use Rattle.rules.specs.declared.Part.{Part}
+use Rattle.rules.specs.declared.NoSetUp.{NoSetUp}
+use Rattle.rules.specs.declared.NoSetUp.TheVariants.{SettingBeyond, WrongLength}
 use Rattle.rules.specs.Settings.{slot, room}
-use Rattle.rules.specs.Phases.{operations, allows, #allocate, #swap, #use, #retire, #deliver, #handle}
+use Rattle.rules.specs.Phases.{operations, phases, idle, loaded, reserved, collecting, pinging, waiting, scanning, freeing, allows, #allocate, #swap, #load, #reserve, #check, #use, #clear, #retire, #advance, #deliver, #handle}
 use Rattle.rules.specs.State.{State, status, held, phase, pending, handler, list_length}
 use Rattle.rules.specs.Operations.{lowest_free, named}
 
--- a step: five words
-pub record Step : Type 0 where
-  pub thread : ℕ
-  pub op : ℕ
-  pub a : ℕ
-  pub b : ℕ
-  pub c : ℕ
-
+-- a step: five words, in their order
 abbrev pub step_of : (thread op a b c : ℕ) → Step
 step_of t op a b c = record { thread = t; op = op; a = a; b = b; c = c }
 
@@ -99,7 +98,31 @@ module _ (S : Settings) (m : State) (s : Step) where
   unfoldable pub refusal : ℕ
   refusal = first_given refusals
 
--- the enum: a number and a value for each of its cases
+-- the operations and the phases as the code has them
+abbrev pub op_number : Operation → ℕ
+op_number Allocate = #allocate
+op_number Swap = #swap
+op_number Load = #load
+op_number Reserve = #reserve
+op_number Check = #check
+op_number Use = #use
+op_number Clear = #clear
+op_number Retire = #retire
+op_number Advance = #advance
+op_number Deliver = #deliver
+op_number Handle = #handle
+
+abbrev pub phase_number : Phase → ℕ
+phase_number Idle = idle
+phase_number Loaded = loaded
+phase_number Reserved = reserved
+phase_number Collecting = collecting
+phase_number Pinging = pinging
+phase_number Waiting = waiting
+phase_number Scanning = scanning
+phase_number Freeing = freeing
+
+-- why a step is refused: a number for each of its cases
 abbrev pub why_number : Why → ℕ
 why_number Damaged = 1
 why_number NoSuchOperation = 2
@@ -113,10 +136,37 @@ why_number CellNames = 9
 why_number ListFull = 10
 why_number NotHeld = 11
 
-abbrev pub number_of : Reply → ℕ
-number_of (Done x) = 0
-number_of (Refused why) = why_number why
+-- a number names an operation, or none
+abbrev pub NamesOperation : ℕ → Result Operation Why → Type 0
+NamesOperation n r = MatchResult r (λ o. op_number o ≡ n) (λ why. (why ≡ NoSuchOperation) × (operations ≤ n))
 
-abbrev pub value_of : Reply → ℕ
-value_of (Done x) = x
-value_of (Refused why) = 0
+-- a word names a phase, or an image that has it there is damaged
+abbrev pub NamesPhase : ℕ → Result Phase Why → Type 0
+NamesPhase n r = MatchResult r (λ p. phase_number p ≡ n) (λ why. (why ≡ Damaged) × (phases ≤ n))
+
+-- the answer of a step or of a question: a number, and a step's value
+abbrev pub number_of : {A : Type 0} → Result A Why → ℕ
+number_of (Ok x) = 0
+number_of (Err why) = why_number why
+
+abbrev pub value_of : Result ℕ Why → ℕ
+value_of (Ok x) = x
+value_of (Err why) = 0
+
+-- the part that the list question hands back: nothing from the start where it is refused
+abbrev pub from_of : Result Part Why → ℕ
+from_of (Ok part) = part.from
+from_of (Err why) = 0
+
+abbrev pub length_of : Result Part Why → ℕ
+length_of (Ok part) = part.length
+length_of (Err why) = 0
+
+-- why a set-up is refused, and its answer
+abbrev pub no_set_up_number : NoSetUp → ℕ
+no_set_up_number SettingBeyond = 12
+no_set_up_number WrongLength = 13
+
+abbrev pub set_up_number_of : {A : Type 0} → Result A NoSetUp → ℕ
+set_up_number_of (Ok x) = 0
+set_up_number_of (Err why) = no_set_up_number why

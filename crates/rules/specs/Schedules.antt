@@ -3,7 +3,7 @@ use Rattle.std.specs.Prelude.{List, [], ◌∷◌, ℕ}
 use Rattle.rules.specs.declared.Settings.{Settings}
 use Rattle.rules.specs.Image.{Outcome}
 use Rattle.rules.specs.SetUp.{fresh}
-use Rattle.rules.specs.Replies.{Step}
+use Rattle.rules.specs.declared.Step.{Step}
 use Rattle.rules.specs.Step.{step}
 
 -- the outcomes of steps, one after another, from an image

@@ -1,9 +1,8 @@
--- An image seen as a state: its words by what 01 calls them. And the words that a step changes.
+-- An image seen as a state: its words by what 01 calls them. And the words that a step changes. The kinds of words are
+-- declared with the code.
 use Rattle.std.specs.Prelude.{Bool, true, List, [], ℕ}
-
--- the kinds of words; the six of a thread, and a list's length and entries, are a kind each
-pub data Kind : Type 0 where
-  Cell Status Private Published Held Count Phase U' V' W' Pending Handler Collected Length Entry Scanned : Kind
+use Rattle.rules.specs.declared.Kind.{Kind}
+use Rattle.rules.specs.declared.Kind.TheVariants.{Cell, Status, Private, Published, Held, Count, Phase, U, V, W, Pending, Handler, Collected, Length, Entry, Scanned}
 
 -- a word by its kind, its row and its place in the row
 abbrev pub State : Type 0
@@ -32,13 +31,13 @@ abbrev pub phase : State → ℕ → ℕ
 phase m t = m Phase t 0
 
 abbrev pub u : State → ℕ → ℕ
-u m t = m U' t 0
+u m t = m U t 0
 
 abbrev pub v : State → ℕ → ℕ
-v m t = m V' t 0
+v m t = m V t 0
 
 abbrev pub w : State → ℕ → ℕ
-w m t = m W' t 0
+w m t = m W t 0
 
 abbrev pub pending : State → ℕ → ℕ
 pending m t = m Pending t 0
@@ -96,13 +95,13 @@ abbrev pub phase≔ : ℕ → ℕ → Write
 phase≔ t x = to Phase t 0 x
 
 abbrev pub u≔ : ℕ → ℕ → Write
-u≔ t x = to U' t 0 x
+u≔ t x = to U t 0 x
 
 abbrev pub v≔ : ℕ → ℕ → Write
-v≔ t x = to V' t 0 x
+v≔ t x = to V t 0 x
 
 abbrev pub w≔ : ℕ → ℕ → Write
-w≔ t x = to W' t 0 x
+w≔ t x = to W t 0 x
 
 abbrev pub pending≔ : ℕ → ℕ → Write
 pending≔ t x = to Pending t 0 x

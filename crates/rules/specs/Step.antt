@@ -8,7 +8,8 @@ use Rattle.rules.specs.Image.{view, Outcome, after}
 use Rattle.rules.specs.Damaged.{damaged}
 use Rattle.rules.specs.Operations.{allocate, swap, load, reserve, check, use_slot, clear, retire, deliver, handle}
 use Rattle.rules.specs.Advance.{advance}
-use Rattle.rules.specs.Replies.{Step, refusal}
+use Rattle.rules.specs.declared.Step.{Step}
+use Rattle.rules.specs.Replies.{refusal}
 
 -- the operations, one list
 unfoldable pub perform : Settings → State → Step → Answer

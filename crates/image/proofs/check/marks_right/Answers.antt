@@ -6,7 +6,8 @@ use Rattle.rules.proofs.Laws.{all_same}
 use Rattle.rules.specs.Damaged.{marks_right}
 use Rattle.rules.specs.Image.{size, start, view}
 use Rattle.rules.specs.Settings.{all_slots}
-use Rattle.rules.specs.State.{Held, Private, held, private}
+use Rattle.rules.specs.declared.Kind.TheVariants.{Held, Private}
+use Rattle.rules.specs.State.{held, private}
 use Rattle.rules.specs.Tests.{all}
 use Rattle.rules.specs.declared.Settings.{Settings}
 use Rattle.image.proofs.check.marks_right.Goals as goal

@@ -5,7 +5,8 @@ use Rattle.image.proofs.Columns.{column, narrow}
 use Rattle.rules.specs.Damaged.{records_right}
 use Rattle.rules.specs.Image.{size, start, view}
 use Rattle.rules.specs.Settings.{room}
-use Rattle.rules.specs.State.{Cell, Private, Published, Scanned, entry}
+use Rattle.rules.specs.declared.Kind.TheVariants.{Cell, Private, Published, Scanned}
+use Rattle.rules.specs.State.{entry}
 use Rattle.rules.specs.Tests.{all}
 use Rattle.rules.specs.declared.Settings.{Settings}
 use Rattle.image.proofs.check.records_right.Goals as goal

@@ -2,7 +2,7 @@
 use Rattle.std.proofs.Common.{arith, ◌+◌, leb, refl, ◌∙◌}
 use Rattle.image.proofs.Columns.{narrow}
 use Rattle.rules.specs.Damaged.{statuses_right}
-use Rattle.rules.specs.State.{Status}
+use Rattle.rules.specs.declared.Kind.TheVariants.{Status}
 use Rattle.image.proofs.check.statuses_right.Goals as goal
 
 pub returns : goal.returns

@@ -1,7 +1,7 @@
 use Rattle.std.proofs.Common.{arith, ◌≡◌, ℕ, ◌+◌, ◌-◌, ◌<◌, ◌≤◌, List, length, get_or, sym, ◌∙◌, below_more}
 use Rattle.machine.proofs.Passed.{Passed}
 use Rattle.machine.proofs.Standing.{status_stands}
-use Rattle.rules.specs.State.{Status}
+use Rattle.rules.specs.declared.Kind.TheVariants.{Status}
 use Rattle.rules.specs.Operations as rule
 use Rattle.rules.proofs.Lowest.{Taken, free_miss, free_hit}
 use Rattle.image.specs.declared.layout.Layout.{Layout}

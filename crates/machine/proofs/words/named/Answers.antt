@@ -9,7 +9,7 @@ use Rattle.rules.specs.Tests.{some}
 use Rattle.rules.specs.Operations as rule
 use Rattle.image.specs.declared.layout.Layout.{Layout}
 use Rattle.rules.specs.Image.{start, view, sections}
-use Rattle.rules.specs.State.{Cell}
+use Rattle.rules.specs.declared.Kind.TheVariants.{Cell}
 use Rattle.machine.proofs.words.named.Goals as goal
 
 module _ {l : Layout} {I : List ℕ} {q : ℕ} (f : Fits l I) (e : q ≡ start l.settings 1) where

@@ -1,8 +1,3 @@
--- What is proved beside the functions, for several of them.
-pub mod Loops
+-- Laws.
 pub mod Sections
-pub mod Columns
-pub mod Lists
 pub mod Stands
-pub mod Runs
-pub mod Verdicts

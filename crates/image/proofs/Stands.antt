@@ -1,59 +1,108 @@
--- Where the layout's numbers put each word.
-use mathlib.Core.Path.{◌≡◌, refl, sym, ap, ◌∙◌}
-use mathlib.Core.List.{List}
-use Prim.Native.Nat.{ℕ, zero, suc, ◌+◌, ◌*◌, ◌-◌, ◌≤◌, ◌<◌}
-use native.Mathlib.Omega.{arith}
-use lib.ListN.{get_or}
+-- Where the layout's numbers put each word, each section and each row.
+use Rattle.std.proofs.Common.{◌≡◌, List, ℕ, ◌+◌, ◌*◌, ◌-◌, ◌≤◌, ◌<◌, length, get_or, take, drop, refl, sym, ap, ◌∙◌, arith, length-take, length-drop, get_or-take, get_or-drop}
 use Rattle.rules.specs.declared.Settings.{Settings}
-use Rattle.rules.specs.Settings.{settings, room}
 use Rattle.rules.specs.declared.Kind.{Kind}
-use Rattle.rules.specs.declared.Kind.TheVariants.{Phase, U, V, W, Pending, Handler, Length}
-use Rattle.rules.specs.Image.{sections, thread_words, start, lay, within, address}
-use Rattle.rules.proofs.Places.{Valid, read, inside}
+use Rattle.rules.specs.Image.{sections, size, start, words, lay, within, address, view}
+use Rattle.rules.proofs.Limits.{words_most, room_most}
+use Rattle.rules.proofs.Places.{Valid, read, inside, fitting}
+use Rattle.image.proofs.Sections.{section_end, section_inside}
 use Rattle.image.specs.declared.layout.Layout.{Layout}
-use Rattle.rules.proofs.Limits.{Limits}
-use Rattle.rules.proofs.Shaped.{Shaped}
-use Rattle.image.specs.Fits.{Fits, At, own}
+use Rattle.image.specs.declared.view.View.{View}
+use Rattle.image.specs.Stands.{At, Lays}
+use Rattle.image.specs.Views.{IsSection, IsRow}
 
-module _ (l : Layout) where
-  pub stands : (k : Kind) (i j p : ℕ) → Valid l.settings k i j → p ≡ address l.settings k i j → At l k i j p
-  stands k i j p h e = record {
-    here = e;
-    inside = rw e (inside l.settings k i j h);
-    reads = λ I. read l.settings I k i j h ∙ ap (λ z. get_or I z 0) (sym e);
-  }
+-- n words of an image from p on, up to q
+module _ (I : List ℕ) (p q : ℕ) {n : ℕ} (e : q - p ≡ n) (h : p + n ≤ length I) where
+  pub part_long : length (take (q - p) (drop p I)) ≡ n
+  part_long = simp (length-take, length-drop) (omega (arith, e, h))
 
-  -- a kind whose rows count from 0: q words stand before its section, x is the place in the section, w the rows' width
-  pub row_stands : (k : Kind) (i j : ℕ) {q w x p : ℕ} → Valid l.settings k i j → (lay l.settings k).from ≡ 0 → q ≡ start l.settings (lay l.settings k).section
-      → w ≡ (lay l.settings k).width → x ≡ i * w + ((lay l.settings k).offset + j) → p ≡ q + 1 + x → At l k i j p
+  pub part_reads : (i : ℕ) → i < n → get_or (take (q - p) (drop p I)) i 0 ≡ get_or I (p + i) 0
+  part_reads i b =
+      let b' : i < q - p = omega (arith, e) in
+      rw (get_or-take, get_or-drop)
+
+-- the list room, as a number that fits
+pub room_fits : (l : Layout) → l.room ≤ 256
+room_fits l = omega (arith, l.room_is, room_most l.limits)
+
+module _ (l : Layout) (k : Kind) {s f w o n : ℕ} (e : Lays l.settings k s f w o n) where
+  known : s < sections
+  known = rw e.section (fitting l.settings k).section
+
+  -- where the section starts, and where the next one does
+  begins : get_or l.starts s 0 ≡ start l.settings s
+  begins = l.starts_are s (omega (arith, known))
+
+  ends : get_or l.starts (s + 1) 0 ≡ start l.settings (s + 1)
+  ends = l.starts_are (s + 1) (omega (arith, known))
+
+  pub section_least : get_or l.starts s 0 + 1 ≤ get_or l.starts (s + 1) 0
+  section_least = omega (arith, begins, ends, section_end l.settings s)
+
+  pub section_within : get_or l.starts (s + 1) 0 ≤ words l.settings
+  section_within = omega (arith, ends, section_end l.settings s, section_inside l.settings s known)
+
+  pub section_fits : get_or l.starts s 0 + 1 ≤ 8209
+  section_fits = omega (arith, section_least, section_within, words_most l.limits)
+
+  -- a word by a line of the table
+  module _ (i j : ℕ) (h : Valid l.settings k i j) where
+    placed_at : get_or l.starts s 0 + 1 + (i - f) * w + o + j ≡ address l.settings k i j
+    unfolding address within
+    placed_at = rw (begins, e.section, e.from, e.width, e.offset) (omega arith)
+
+    pub placed : At l k i j (get_or l.starts s 0 + 1 + (i - f) * w + o + j)
+    placed = record {
+      here = placed_at;
+      inside = rw placed_at (inside l.settings k i j h);
+      reads = λ I. read l.settings I k i j h ∙ ap (λ z. get_or I z 0) (sym placed_at);
+    }
+
+    pub place_fits : get_or l.starts s 0 + 1 + (i - f) * w + o + j ≤ 8209
+    place_fits = omega (arith, placed.inside, words_most l.limits)
+
+-- the words of a section, as a part of the image
+module _ (v : View) (k : Kind) {s f w o n : ℕ} (e : Lays v.layout.settings k s f w o n) where
+  pub section_long : get_or v.layout.starts (s + 1) 0 - (get_or v.layout.starts s 0 + 1) ≡ size v.layout.settings (lay v.layout.settings k).section
+  section_long = omega (arith, begins v.layout k e, ends v.layout k e, section_end v.layout.settings s, ap (size v.layout.settings) e.section)
+
+  pub section_part : IsSection v k (take (get_or v.layout.starts (s + 1) 0 - (get_or v.layout.starts s 0 + 1)) (drop (get_or v.layout.starts s 0 + 1) v.words.now))
+  section_part =
+      let h : get_or v.layout.starts s 0 + 1 + size v.layout.settings (lay v.layout.settings k).section ≤ length v.words.now =
+      omega (arith, section_long, section_least v.layout k e, section_within v.layout k e, v.long) in
+      record {
+        long = part_long v.words.now _ _ section_long h;
+        words = λ i b.
+            part_reads v.words.now _ _ section_long h i (omega (arith, b, part_long v.words.now _ _ section_long h))
+            ∙ ap (λ z. get_or v.words.now (z + 1 + i) 0) (begins v.layout k e ∙ ap (start v.layout.settings) e.section);
+      }
+
+-- the words of a kind in a row, as a part of the image
+module _ (v : View) (k : Kind) (i : ℕ) (h : Valid v.layout.settings k i 0) {p s f w o n : ℕ} (a : At v.layout k i 0 p) (e : Lays v.layout.settings k s f w o n) where
+  follows : (j : ℕ) → address v.layout.settings k i j ≡ p + j
   unfolding address within
-  row_stands k i j {q} {w} {x} {p} h f e g d b =
-      let r : i - (lay l.settings k).from ≡ i = omega arith in
-      stands k i j p h (omega (arith, ap (λ z. z * (lay l.settings k).width) r, ap (λ z. i * z) g))
+  follows j = omega (arith, a.here)
 
-  -- the six words of a thread
-  pub thread_stands : (t o : ℕ) {q x p : ℕ} → t < l.settings.threads → o < thread_words → q ≡ start l.settings 7 → x ≡ t * thread_words + o → p ≡ q + 1 + x → At l (own o) t 0 p
-  thread_stands t zero h g e d b = row_stands Phase t 0 (record { low = omega arith; high = omega arith; place = omega arith }) refl e refl (omega arith) b
-  thread_stands t (suc zero) h g e d b = row_stands U t 0 (record { low = omega arith; high = omega arith; place = omega arith }) refl e refl (omega arith) b
-  thread_stands t (suc (suc zero)) h g e d b = row_stands V t 0 (record { low = omega arith; high = omega arith; place = omega arith }) refl e refl (omega arith) b
-  thread_stands t (suc (suc (suc zero))) h g e d b = row_stands W t 0 (record { low = omega arith; high = omega arith; place = omega arith }) refl e refl (omega arith) b
-  thread_stands t (suc (suc (suc (suc zero)))) h g e d b = row_stands Pending t 0 (record { low = omega arith; high = omega arith; place = omega arith }) refl e refl (omega arith) b
-  thread_stands t (suc (suc (suc (suc (suc zero))))) h g e d b = row_stands Handler t 0 (record { low = omega arith; high = omega arith; place = omega arith }) refl e refl (omega arith) b
-  thread_stands t (suc (suc (suc (suc (suc (suc o)))))) h g e d b = absurd (omega arith)
+  valid : (j : ℕ) → j < (lay v.layout.settings k).span → Valid v.layout.settings k i j
+  valid j b = record { low = h.low; high = h.high; place = b }
 
-  pub length_stands : (t : ℕ) {q n x p : ℕ} → t < l.settings.threads → q ≡ start l.settings 9 → n ≡ room l.settings → x ≡ t * (n + 1) + 0 → p ≡ q + 1 + x → At l Length t 0 p
-  length_stands t h e g d b = row_stands Length t 0 (record { low = omega arith; high = omega arith; place = omega arith }) refl e (ap (λ z. z + 1) g) d b
+  pub row_within : p + (lay v.layout.settings k).span ≤ words v.layout.settings
+  row_within =
+      let m : ℕ = (lay v.layout.settings k).span in
+      let b : m - 1 < m = omega (arith, h.place) in
+      omega (arith, h.place, inside v.layout.settings k i (m - 1) (valid (m - 1) b), follows (m - 1))
 
--- what is read off a shaped image is a layout of it
-pub laid_out : {I ps : List ℕ} {S : Settings} {n : ℕ} → Shaped I → S ≡ settings I → n ≡ room S
-    → ((k : ℕ) → k ≤ sections → get_or ps k 0 ≡ start (settings I) k) → Fits (record { settings = S; room = n; starts = ps }) I × (S ≡ settings I)
-laid_out {I} {ps} {S} {n} s e r p = (
-  record {
-    fine = record { limits = rw e s.limits; room = r; starts = λ k h. p k h ∙ ap (λ z. start z k) (sym e) };
-    long = rw e s.long;
-  },
-  e,
-)
+  pub row_long : p + n - p ≡ (lay v.layout.settings k).span
+  row_long = omega (arith, e.span)
 
-pub limits_at : {I : List ℕ} {S : Settings} → Shaped I → S ≡ settings I → Limits S
-limits_at s e = rw e s.limits
+  pub row_part : IsRow v k i (take (p + n - p) (drop p v.words.now))
+  row_part =
+      let g : p + (lay v.layout.settings k).span ≤ length v.words.now = omega (arith, row_within, v.long) in
+      record {
+        long = part_long v.words.now _ _ row_long g;
+        words = λ j b.
+            let q : j < (lay v.layout.settings k).span = omega (arith, b, part_long v.words.now _ _ row_long g) in
+            part_reads v.words.now _ _ row_long g j q
+            ∙ ap (λ z. get_or v.words.now z 0) (sym (follows j))
+            ∙ sym (read v.layout.settings v.words.now k i j (valid j q));
+      }

@@ -1,3 +1,4 @@
 -- What the contracts of this crate cite besides the rules.
-pub mod Fits
+pub mod Stands
+pub mod Views
 pub mod Filled

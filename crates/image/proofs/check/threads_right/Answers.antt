@@ -1,9 +1,0 @@
-use Rattle.std.proofs.Common.{arith}
-use Rattle.image.proofs.Loops.{begins, goes_on}
-use Rattle.image.proofs.check.threads_right.Goals as goal
-
-pub loop-t-init : goal.loop-t-init
-loop-t-init c = (omega arith, begins _)
-
-pub loop-t-preserved : goal.loop-t-preserved
-loop-t-preserved c = (omega arith, goes_on _ c.loop-t.t c.loop-t.invariant.1 c.thread_right-ok.ensures)

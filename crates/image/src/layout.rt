@@ -1,9 +1,11 @@
 // Where each word of an image stands, worked out once and passed on by value.
-ghost use Rattle.std.specs.Prelude.{◌≡◌, ℕ, ◌≤◌, get_or};
+ghost use Rattle.std.specs.Prelude.{◌≡◌, ℕ, ◌≤◌, length, get_or};
 ghost use Rattle.rules.specs.Settings as of;
 ghost use Rattle.rules.specs.Image as whole;
 ghost use Rattle.rules.proofs.Limits.{Limits};
+ghost use Rattle.rules.proofs.Shaped.{Shaped};
 
+use super::sizes::room;
 use rules::{Kind, Settings};
 
 // The settings, the list room, and for each section how many words stand before it; last, how many the image has.
@@ -28,10 +30,46 @@ pub(crate) struct Lay {
     pub(crate) span: usize,
 }
 
+// The settings of an image: its words after the first count.
+pub fn settings(words: &[u32]) -> Settings
+    requires { 7 ≤ length words.now }
+    ensures { result ≡ of.settings words.now }
+{
+    Settings::from([words[1], words[2], words[3], words[4], words[5], words[6]])
+}
+
+// How many words stand before each section: the counts before it are added up.
+fn starts(words: &[u32]) -> [usize; 12]
+    requires { Shaped words.now }
+    ensures { (k : ℕ) → k ≤ whole.sections → get_or result k 0 ≡ whole.start (of.settings words.now) k }
+{
+    let mut starts = [0usize; 12];
+    let mut p = 0;
+    for k in 0..11 {
+        starts[k] = p;
+        p += 1 + words[p] as usize;
+    }
+    starts[11] = p;
+    starts
+}
+
 impl Layout {
     ghost use Rattle.std.specs.Prelude.{◌<◌, ◌*◌, ◌+◌};
     ghost use Rattle.rules.proofs.Places.{Valid};
     ghost use Rattle.image.specs.Stands.{At, Lays};
+
+    // The layout of an image of which the settings are legal and the counts are right.
+    pub fn of(words: &[u32]) -> Layout
+        requires { Shaped words.now }
+        ensures { result.settings ≡ of.settings words.now }
+    {
+        let settings = settings(words);
+        Layout {
+            settings,
+            room: room(settings),
+            starts: starts(words),
+        }
+    }
 
     // The slots of all threads.
     pub fn all_slots(self) -> usize

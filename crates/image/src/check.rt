@@ -1,0 +1,171 @@
+// The damage check: a plain loop a rule, each over one run of words.
+ghost use Rattle.std.specs.Prelude.{◌≡◌, not, ◌&&◌, ◌||◌, ℕ, ◌+◌, ◌*◌, ◌<◌, ◌≤◌, length, get_or, eqb, leb};
+ghost use Rattle.rules.specs.Tests.{all};
+ghost use Rattle.rules.specs.Settings as of;
+ghost use Rattle.rules.specs.State.{entry, list_length};
+ghost use Rattle.rules.specs.Image as whole;
+ghost use Rattle.rules.specs.Damaged as image;
+ghost use Rattle.rules.specs.Replies.{phase_number};
+ghost use Rattle.image.specs.Views.{seen};
+
+use super::view::View;
+use rules::{Kind, Phase, Settings};
+
+// Each of the words is at most b.
+fn at_most(words: &[u32], b: u32) -> bool
+    ensures { result ≡ all (length words.now) (λ i. leb (get_or words.now i 0) b) }
+{
+    let mut ok = true;
+    for word in words {
+        ok = ok & (*word <= b);
+    }
+    ok
+}
+
+// None of the words is 0.
+fn none_zero(words: &[u32]) -> bool
+    ensures { result ≡ all (length words.now) (λ i. not (eqb (get_or words.now i 0) 0)) }
+{
+    let mut ok = true;
+    for word in words {
+        ok = ok & (*word != 0);
+    }
+    ok
+}
+
+// Each of the marks is 0, or the slot beside it isn't.
+fn beside(marks: &[u32], slots: &[u32]) -> bool
+    requires { length marks.now ≡ length slots.now }
+    ensures { result ≡ all (length marks.now) (λ i. eqb (get_or marks.now i 0) 0 || not (eqb (get_or slots.now i 0) 0)) }
+{
+    let mut ok = true;
+    for (mark, slot) in marks.iter().zip(slots) {
+        ok = ok & ((*mark == 0) | (*slot != 0));
+    }
+    ok
+}
+
+// What a thread's phase line is about: the length of its list, its phase, and u, v and w.
+#[derive(Clone, Copy)]
+struct Line {
+    length: usize,
+    phase: Phase,
+    u: usize,
+    v: usize,
+    w: usize,
+}
+
+// Whether the line holds.
+fn line_right(s: Settings, l: Line) -> bool
+    requires { of.all_slots s ≤ 128 }
+    ensures { result ≡ image.phase_line s l.length (phase_number l.phase) l.u l.v l.w }
+{
+    match l.phase {
+        Phase::Idle => (l.u == 0) & (l.v == 0) & (l.w == 0),
+        Phase::Loaded | Phase::Reserved => {
+            (l.u < s.slots) & (l.v < s.cells) & (l.w <= s.records)
+        }
+        Phase::Collecting | Phase::Pinging | Phase::Waiting => {
+            (1 <= l.length) & (l.u < s.threads) & (l.v == 0) & (l.w == 0)
+        }
+        Phase::Scanning => {
+            (1 <= l.length) & (l.u < s.threads * s.slots) & (l.v == 0) & (l.w == 0)
+        }
+        Phase::Freeing => (1 <= l.length) & (l.u < l.length) & (l.v <= l.u) & (l.w == 0),
+    }
+}
+
+impl View<'_> {
+    // Each entry of each list is at most b.
+    fn lists_at_most(&self, b: u32) -> bool
+        ensures { result ≡ all self.now.layout.settings.threads (λ t. all (of.room self.now.layout.settings) (λ i. leb (entry (seen self.now) t i) b)) }
+    {
+        let mut ok = true;
+        for t in 0..self.layout.settings.threads {
+            ok = ok & at_most(self.row(Kind::Entry, t), b);
+        }
+        ok
+    }
+
+    fn records_right(&self) -> bool
+        ensures { result ≡ image.records_right self.now.layout.settings (seen self.now) }
+    {
+        let b = self.layout.settings.records as u32;
+        at_most(self.section(Kind::Cell), b)
+            & at_most(self.section(Kind::Private), b)
+            & at_most(self.section(Kind::Published), b)
+            & self.lists_at_most(b)
+            & at_most(self.section(Kind::Scanned), b)
+    }
+
+    fn statuses_right(&self) -> bool
+        ensures { result ≡ image.statuses_right self.now.layout.settings (seen self.now) }
+    {
+        at_most(self.section(Kind::Status), 2)
+    }
+
+    fn marks_right(&self) -> bool
+        ensures { result ≡ image.marks_right self.now.layout.settings (seen self.now) }
+    {
+        let marks = self.section(Kind::Held);
+        at_most(marks, 1) & beside(marks, self.section(Kind::Private))
+    }
+
+    // No entry in use is 0: those below the length, but while the list is freed those below v and those from u on.
+    fn entries_right(&self, t: usize, l: Line) -> bool
+        requires { (t < self.now.layout.settings.threads) × (l.length ≤ self.now.layout.room) × (phase_number l.phase ≡ 7 → (l.u < l.length) × (l.v ≤ l.u)) }
+        ensures { result ≡ all (of.room self.now.layout.settings) (λ i. not (image.in_use l.length (phase_number l.phase) l.u l.v i) || not (eqb (entry (seen self.now) t i) 0)) }
+    {
+        let entries = &self.row(Kind::Entry, t)[..l.length];
+        match l.phase {
+            Phase::Freeing => none_zero(&entries[..l.v]) & none_zero(&entries[l.u..]),
+            _ => none_zero(entries),
+        }
+    }
+
+    fn thread_right(&self, t: usize) -> bool
+        requires { t < self.now.layout.settings.threads }
+        ensures { result ≡ image.thread_right self.now.layout.settings (seen self.now) t }
+    {
+        let s = self.layout.settings;
+        let Ok(phase) = Phase::try_from(self.word(Kind::Phase, t, 0)) else {
+            return false;
+        };
+        let l = Line {
+            length: self.word(Kind::Length, t, 0) as usize,
+            phase,
+            u: self.word(Kind::U, t, 0) as usize,
+            v: self.word(Kind::V, t, 0) as usize,
+            w: self.word(Kind::W, t, 0) as usize,
+        };
+        if (self.word(Kind::Pending, t, 0) <= 1)
+            & (self.word(Kind::Handler, t, 0) as usize <= s.slots + 1)
+            & (l.length <= self.layout.room)
+            & line_right(s, l)
+        {
+            self.entries_right(t, l)
+        } else {
+            false
+        }
+    }
+
+    fn threads_right(&self) -> bool
+        ensures { result ≡ all self.now.layout.settings.threads (λ t. image.thread_right self.now.layout.settings (seen self.now) t) }
+    {
+        let mut ok = true;
+        for t in 0..self.layout.settings.threads {
+            ok = ok & self.thread_right(t);
+        }
+        ok
+    }
+
+    // Whether all words are right.
+    pub fn right(&self) -> bool
+        ensures { result ≡ image.right self.now.layout.settings (seen self.now) }
+    {
+        self.records_right()
+            & self.statuses_right()
+            & self.marks_right()
+            & self.threads_right()
+    }
+}

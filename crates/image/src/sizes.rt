@@ -1,0 +1,119 @@
+// Settings within their limits, and how many words the sections of their image have.
+ghost use Rattle.std.specs.Prelude.{◌≡◌};
+ghost use Rattle.rules.specs.Tests as test;
+ghost use Rattle.rules.specs.Settings as of;
+ghost use Rattle.rules.specs.Image as whole;
+ghost use Rattle.rules.proofs.Limits.{Limits};
+
+use rules::Settings;
+
+// The settings, and the words of each section, its count apart.
+#[derive(Clone, Copy)]
+pub struct Sizes {
+    pub settings: Settings,
+    pub sections: [usize; 11],
+    // The settings are within their limits, and the sections are what they give.
+    pub ghost limits: { Limits settings },
+    pub ghost sections_are: { sections ≡ whole.sizes settings },
+}
+
+fn from_to(a: usize, b: usize, x: usize) -> bool
+    ensures { result ≡ test.from_to a b x }
+{
+    (a <= x) & (x <= b)
+}
+
+// Whether each setting is within its limits.
+pub fn legal(s: Settings) -> bool
+    ensures { result ≡ of.legal s }
+{
+    from_to(1, 16, s.threads)
+        & from_to(1, 8, s.slots)
+        & from_to(1, 256, s.cells)
+        & from_to(1, 1024, s.records)
+        & from_to(1, 256, s.threshold)
+        & (s.start < 4294967296)
+}
+
+// The list room.
+pub fn room(s: Settings) -> usize
+    requires { Limits s }
+    ensures { result ≡ of.room s }
+{
+    s.threshold.max(s.threads * s.slots + 1)
+}
+
+// The words of each section.
+fn sections(s: Settings) -> [usize; 11]
+    requires { Limits s }
+    ensures { result ≡ whole.sizes s }
+{
+    let t = s.threads;
+    let all = t * s.slots;
+    let l = room(s);
+    [
+        6,
+        s.cells,
+        s.records,
+        all,
+        all,
+        all,
+        t,
+        t * 6,
+        t * t,
+        t * (l + 1),
+        t * all,
+    ]
+}
+
+impl Sizes {
+    ghost use Rattle.std.specs.Prelude.{true, false, length, MatchOption};
+    ghost use Rattle.rules.specs.Tests.{all};
+    ghost use Rattle.rules.specs.Damaged as image;
+    ghost use Rattle.rules.proofs.Shaped.{count_right};
+
+    // Nothing where a setting is beyond its limit.
+    pub fn of(settings: Settings) -> Option<Sizes>
+        ensures { MatchOption result (of.legal settings ≡ false) (λ z. (z.settings ≡ settings) × (of.legal settings ≡ true)) }
+    {
+        if !legal(settings) {
+            return None;
+        }
+        Some(Sizes {
+            settings,
+            sections: sections(settings),
+        })
+    }
+
+    // How many words the image has: each section's after its count.
+    pub fn total(&self) -> usize
+        ensures { result ≡ whole.words self.now.settings }
+    {
+        let mut p = 0;
+        for n in &self.sections {
+            p += 1 + *n;
+        }
+        p
+    }
+
+    // Whether each section's count is right, in an image as long as the sizes give.
+    fn counts_right(&self, words: &[u32]) -> bool
+        requires { length words.now ≡ whole.words self.now.settings }
+        ensures { result ≡ all whole.sections (count_right self.now.settings words.now) }
+    {
+        let mut ok = true;
+        let mut p = 0;
+        for n in &self.sections {
+            ok = ok & (words[p] as usize == *n);
+            p += 1 + *n;
+        }
+        ok
+    }
+
+    // Whether an image's length and counts are what the sizes give.
+    pub fn laid(&self, words: &[u32]) -> bool
+        ensures { result ≡ image.laid self.now.settings words.now }
+    {
+        words.len() == self.total() && self.counts_right(words)
+    }
+}

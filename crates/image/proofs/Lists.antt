@@ -1,9 +1,8 @@
 -- Tests over the words that a view lends: a section's, a row's, and the entries of a list that are in use.
-use Rattle.std.proofs.Common.{◌≡◌, ℕ, ◌+◌, ◌-◌, ◌≤◌, ◌<◌, Bool, true, false, not, ◌&&◌, ◌||◌, eqb, leb, ltb, List, length, get_or, take, drop, refl, sym, ap, ◌∙◌, arith, length-take, length-drop, get_or-take, get_or-drop, lt-ltb, le-leb, ne_eqb}
+use Rattle.std.proofs.Common.{◌≡◌, ℕ, ◌+◌, ◌-◌, ◌≤◌, ◌<◌, Bool, true, false, not, ◌&&◌, ◌||◌, eqb, leb, ltb, List, length, get_or, take, drop, ap, ◌∙◌, arith, length-take, length-drop, get_or-take, get_or-drop, lt-ltb, le-leb, ne_eqb}
 use borrow.Author.Tests.{le-ltb, lt-leb}
 use Rattle.rules.specs.Tests.{all}
 use Rattle.rules.specs.Phases.{freeing}
-use Rattle.rules.specs.Settings.{room}
 use Rattle.rules.specs.declared.Kind.{Kind}
 use Rattle.rules.specs.Image.{size, start, lay}
 use Rattle.rules.specs.Damaged.{in_use}

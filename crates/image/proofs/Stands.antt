@@ -1,8 +1,7 @@
 -- Where the layout's numbers put each word, each section and each row.
-use Rattle.std.proofs.Common.{◌≡◌, List, ℕ, ◌+◌, ◌*◌, ◌-◌, ◌≤◌, ◌<◌, length, get_or, take, drop, refl, sym, ap, ◌∙◌, arith, length-take, length-drop, get_or-take, get_or-drop}
-use Rattle.rules.specs.declared.Settings.{Settings}
+use Rattle.std.proofs.Common.{◌≡◌, List, ℕ, ◌+◌, ◌*◌, ◌-◌, ◌≤◌, ◌<◌, length, get_or, take, drop, sym, ap, ◌∙◌, arith, length-take, length-drop, get_or-take, get_or-drop}
 use Rattle.rules.specs.declared.Kind.{Kind}
-use Rattle.rules.specs.Image.{sections, size, start, words, lay, within, address, view}
+use Rattle.rules.specs.Image.{sections, size, start, words, lay, within, address}
 use Rattle.rules.proofs.Limits.{words_most, room_most}
 use Rattle.rules.proofs.Places.{Valid, read, inside, fitting}
 use Rattle.image.proofs.Sections.{section_end, section_inside}

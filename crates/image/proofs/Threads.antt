@@ -1,5 +1,5 @@
 -- A thread's words as the damage check reads them: its entries are tested last, and only where the others are right.
-use Rattle.std.proofs.Common.{◌≡◌, ℕ, ◌+◌, ◌<◌, ◌≤◌, Bool, true, false, not, ◌&&◌, ◌||◌, eqb, leb, ltb, refl, sym, ap, ◌∙◌, arith, le-leb}
+use Rattle.std.proofs.Common.{◌≡◌, ℕ, ◌+◌, ◌<◌, ◌≤◌, Bool, true, false, not, ◌&&◌, ◌||◌, eqb, leb, ltb, refl, sym, ap, ◌∙◌, arith}
 use Rattle.rules.proofs.Laws.{four}
 use Rattle.rules.specs.Damaged.{entries_right, in_use, phase_line, thread_right}
 use Rattle.rules.specs.Phases.{phases}

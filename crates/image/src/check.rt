@@ -160,12 +160,9 @@ impl View<'_> {
     }
 
     // Whether all words are right.
-    pub fn right(&self) -> bool
+    pub(crate) fn right(&self) -> bool
         ensures { result ≡ image.right self.now.layout.settings (seen self.now) }
     {
-        self.records_right()
-            & self.statuses_right()
-            & self.marks_right()
-            & self.threads_right()
+        self.records_right() & self.statuses_right() & self.marks_right() & self.threads_right()
     }
 }

@@ -31,7 +31,7 @@ pub(crate) struct Lay {
 }
 
 // The settings of an image: its words after the first count.
-pub fn settings(words: &[u32]) -> Settings
+pub(crate) fn settings(words: &[u32]) -> Settings
     requires { 7 ≤ length words.now }
     ensures { result ≡ of.settings words.now }
 {

@@ -36,7 +36,7 @@ pub fn legal(s: Settings) -> bool
 }
 
 // The list room.
-pub fn room(s: Settings) -> usize
+pub(crate) fn room(s: Settings) -> usize
     requires { Limits s }
     ensures { result ≡ of.room s }
 {
@@ -111,7 +111,7 @@ impl Sizes {
     }
 
     // Whether an image's length and counts are what the sizes give.
-    pub fn laid(&self, words: &[u32]) -> bool
+    pub(crate) fn laid(&self, words: &[u32]) -> bool
         ensures { result ≡ image.laid self.now.settings words.now }
     {
         words.len() == self.total() && self.counts_right(words)

@@ -1,4 +1,4 @@
-use Rattle.std.proofs.Common.{rules, arith, refl}
+use Rattle.std.proofs.Common.{arith, refl}
 use Rattle.image.proofs.Loops.{begins, ends, goes_on}
 use Rattle.image.proofs.check.at_most.Goals as goal
 

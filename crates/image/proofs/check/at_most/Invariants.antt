@@ -1,5 +1,5 @@
 -- The verdict over the words passed.
-use Rattle.std.proofs.Common.{◌≡◌, not, get_or, eqb, leb}
+use Rattle.std.proofs.Common.{◌≡◌, get_or, leb}
 use Rattle.rules.specs.Tests.{all}
 use Rattle.image.proofs.check.at_most.Given as goal
 

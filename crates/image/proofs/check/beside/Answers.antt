@@ -1,6 +1,6 @@
-use Rattle.std.proofs.Common.{rules, arith, ap, refl, ◌+◌, ◌∙◌, length-append}
+use Rattle.std.proofs.Common.{rules, length-append}
 use Rattle.std.proofs.lemmas.Slice.Zip.{zip_turn}
-use Rattle.image.proofs.Loops.{begins, ends, goes_on}
+use Rattle.image.proofs.Loops.{begins, goes_on}
 use Rattle.image.proofs.check.beside.Goals as goal
 
 pub loop-mark-init : goal.loop-mark-init

@@ -1,5 +1,5 @@
 -- At a phase only its own line of the rule can hold.
-use Rattle.std.proofs.Common.{rules, arith, ◌≡◌, ◌⊎◌, inl, inr}
+use Rattle.std.proofs.Common.{inl, inr}
 use Rattle.rules.specs.Damaged.{phase_line}
 use mathlib.Core.Bool.{or-false}
 use Rattle.image.proofs.check.line_right.Goals as goal

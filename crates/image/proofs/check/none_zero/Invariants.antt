@@ -1,5 +1,5 @@
 -- The verdict over the words passed.
-use Rattle.std.proofs.Common.{◌≡◌, not, get_or, eqb, leb}
+use Rattle.std.proofs.Common.{◌≡◌, not, get_or, eqb}
 use Rattle.rules.specs.Tests.{all}
 use Rattle.image.proofs.check.none_zero.Given as goal
 

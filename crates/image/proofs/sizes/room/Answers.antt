@@ -1,5 +1,4 @@
 -- The larger of the two.
-use Rattle.std.proofs.Common.{rules, arith}
 use Rattle.rules.specs.Settings.{room}
 use Rattle.image.proofs.sizes.room.Goals as goal
 

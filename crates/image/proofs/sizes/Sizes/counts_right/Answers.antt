@@ -1,4 +1,4 @@
-use Rattle.std.proofs.Common.{arith, sym, ap, ◌∙◌}
+use Rattle.std.proofs.Common.{arith}
 use Rattle.image.proofs.Loops.{begins, ends, goes_on}
 use Rattle.image.proofs.Sections.{section_inside, size_is, start_more, start_none, sum_fits}
 use Rattle.rules.proofs.Shaped.{count_right}

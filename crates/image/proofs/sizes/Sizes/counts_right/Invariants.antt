@@ -1,9 +1,8 @@
 -- The counts passed are right, and the sizes passed are added up. It is said of any settings that these sizes are of.
-use Rattle.std.proofs.Common.{◌≡◌, ◌≤◌}
+use Rattle.std.proofs.Common.{◌≡◌}
 use Rattle.rules.proofs.Shaped.{count_right}
-use Rattle.rules.specs.Image.{sections, sizes, start}
+use Rattle.rules.specs.Image.{start}
 use Rattle.rules.specs.Tests.{all}
-use Rattle.rules.specs.declared.Settings.{Settings}
 use Rattle.image.proofs.sizes.Sizes.counts_right.Given as goal
 
 abbrev pub invariant-loop-n : goal.invariant-loop-n

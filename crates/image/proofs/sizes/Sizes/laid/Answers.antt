@@ -1,5 +1,5 @@
 -- The length, and then the counts.
-use Rattle.std.proofs.Common.{sym, ◌∙◌, ◌≡◌, ne_eqb}
+use Rattle.std.proofs.Common.{sym, ◌∙◌, ne_eqb}
 use Rattle.rules.proofs.Shaped.{laid_long, laid_short}
 use Rattle.image.proofs.sizes.Sizes.laid.Goals as goal
 

@@ -1,5 +1,5 @@
 -- Legal settings are within their limits.
-use Rattle.std.proofs.Common.{rules, sym, ◌∙◌}
+use Rattle.std.proofs.Common.{sym, ◌∙◌}
 use Rattle.rules.proofs.Limits.{legal_says}
 use Rattle.image.proofs.sizes.Sizes.of.Goals as goal
 

@@ -1,5 +1,5 @@
 -- While a list is freed the entries below v and from u on are in use, else those below its length.
-use Rattle.std.proofs.Common.{rules, arith, sym, ap, ◌∙◌, ◌≤◌, ℕ, Bool, not, eqb}
+use Rattle.std.proofs.Common.{arith, sym, ap, ◌∙◌, ◌≤◌, ℕ, Bool, not, eqb}
 use Rattle.image.proofs.Lists.{all_below, all_first, all_above, freeing_all, other_all, room_first}
 use Rattle.image.proofs.Loops.{joined}
 use Rattle.image.proofs.Threads.{not_freeing}

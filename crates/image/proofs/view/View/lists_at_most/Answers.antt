@@ -1,4 +1,4 @@
-use Rattle.std.proofs.Common.{rules, arith, ap, leb, refl}
+use Rattle.std.proofs.Common.{arith, leb}
 use Rattle.image.proofs.Loops.{begins, ends, goes_on}
 use Rattle.image.proofs.Lists.{room_first, row_all}
 use Rattle.image.proofs.view.View.lists_at_most.Goals as goal

@@ -1,5 +1,5 @@
 -- The sections of marks and of private slots, in the same order.
-use Rattle.std.proofs.Common.{arith, ◌≡◌, ℕ, ◌+◌, Bool, not, ◌&&◌, ◌||◌, eqb, leb, refl, sym, ◌∙◌}
+use Rattle.std.proofs.Common.{arith, not, ◌||◌, eqb, leb, refl, sym, ◌∙◌}
 use Rattle.image.proofs.Columns.{narrow, one_word_at, rows_are}
 use Rattle.image.proofs.Lists.{all_told, section_all}
 use Rattle.rules.specs.Damaged.{marks_right}
@@ -24,6 +24,6 @@ returns c =
     (λ i b. rw (
       c.section-marks.ensures.words i b ∙ sym (one_word_at S I Held (record { first = refl; whole = refl }) refl i i (omega arith) (omega (arith, b, c.section-marks.ensures.long, rows_are S Held refl))),
       c.section.ensures.words i (omega (arith, b, c.section-marks.ensures.long, c.section.ensures.long, rows_are S Held refl, rows_are S Private refl))
-      ∙ sym (one_word_at S I Private (record { first = refl; whole = refl }) refl i i (omega arith) (omega (arith, b, c.section-marks.ensures.long, rows_are S Held refl))),
+          ∙ sym (one_word_at S I Private (record { first = refl; whole = refl }) refl i i (omega arith) (omega (arith, b, c.section-marks.ensures.long, rows_are S Held refl))),
     )) c.beside.ensures in
     rw (x, y)

@@ -1,5 +1,5 @@
 -- The sections of cells, slots and scanned words, and the lists' entries.
-use Rattle.std.proofs.Common.{arith, ◌≡◌, ℕ, ◌+◌, Bool, ◌&&◌, leb, refl, ◌∙◌}
+use Rattle.std.proofs.Common.{arith, ℕ, Bool, leb, refl, ◌∙◌}
 use Rattle.image.proofs.Columns.{column, narrow}
 use Rattle.image.proofs.Lists.{section_all}
 use Rattle.rules.specs.Damaged.{records_right}

@@ -1,5 +1,5 @@
 -- The row's words stand one after another from its first on.
-use Rattle.std.proofs.Common.{rules, arith}
+use Rattle.std.proofs.Common.{arith}
 use Rattle.image.proofs.Stands.{row_part, row_within}
 use Rattle.rules.proofs.Limits.{words_most}
 use Rattle.image.proofs.view.View.row.Goals as goal

@@ -1,5 +1,5 @@
 -- The section's words stand between its start and the next one's.
-use Rattle.std.proofs.Common.{rules, arith}
+use Rattle.std.proofs.Common.{arith}
 use Rattle.image.proofs.Stands.{section_fits, section_least, section_part, section_within}
 use Rattle.image.proofs.view.View.section.Goals as goal
 

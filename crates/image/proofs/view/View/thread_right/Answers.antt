@@ -1,5 +1,5 @@
 -- The entries are tested last, and only where the phase line holds.
-use Rattle.std.proofs.Common.{rules, arith, sym, ◌∙◌}
+use Rattle.std.proofs.Common.{arith, sym, ◌∙◌}
 use Rattle.image.proofs.Threads.{asks, failing, no_phase, passing}
 use Rattle.image.specs.Views.{seen}
 use Rattle.image.proofs.view.View.thread_right.Goals as goal

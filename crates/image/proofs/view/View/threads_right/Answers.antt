@@ -1,4 +1,4 @@
-use Rattle.std.proofs.Common.{rules, arith}
+use Rattle.std.proofs.Common.{arith}
 use Rattle.image.proofs.Loops.{begins, ends, goes_on}
 use Rattle.image.proofs.view.View.threads_right.Goals as goal
 

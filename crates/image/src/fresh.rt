@@ -1,0 +1,64 @@
+// Set-up: what it writes.
+ghost use Rattle.std.specs.Prelude.{◌≡◌, cond, [], ◌∷◌, ◌++◌, ℕ, ◌+◌, ◌<◌, ◌≤◌, length, get_or, take, replicate, eqb};
+ghost use Rattle.rules.specs.Image as whole;
+ghost use Rattle.rules.specs.SetUp as rule;
+ghost use Rattle.rules.proofs.Limits.{Limits};
+ghost use Rattle.image.specs.Filled.{Filled, Begun};
+
+use super::sizes::Sizes;
+use rules::Settings;
+
+// The words from p on: n, and n times x.
+fn fill(words: &mut [u32], p: usize, n: usize, x: u32)
+    requires { (p + (1 + n) ≤ length words.old) × (n ≤ 8209) }
+    ensures { Filled words.old words.new p n x }
+{
+    words[p] = n as u32;
+    words[p + 1..p + 1 + n].fill(x);
+}
+
+// The first section, after its count.
+fn put_settings(words: &mut [u32], s: Settings)
+    requires { (7 ≤ length words.old) × (Limits s) }
+    ensures { (length words.new ≡ length words.old) × (take 7 words.new ≡ rule.fresh_up_to s 1) }
+{
+    words[..7].copy_from_slice(&[
+        6,
+        s.threads as u32,
+        s.slots as u32,
+        s.cells as u32,
+        s.records as u32,
+        s.threshold as u32,
+        s.start as u32,
+    ]);
+}
+
+// What stands in each word of section k.
+fn word_of(k: usize, start: u32) -> u32
+    ensures { result ≡ cond (eqb k rule.counts_section) start 0 }
+{
+    if k == 6 { start } else { 0 }
+}
+
+// All sections but the first, each after its count.
+fn put_sections(words: &mut [u32], sizes: &Sizes)
+    requires { (length words.old ≡ whole.words sizes.now.settings) × (take 7 words.old ≡ rule.fresh_up_to sizes.now.settings 1) }
+    ensures { words.new ≡ rule.fresh sizes.now.settings }
+{
+    let start = sizes.settings.start as u32;
+    let mut p = 7;
+    for k in 1..11 {
+        let n = sizes.sections[k];
+        fill(words, p, n, word_of(k, start));
+        p += 1 + n;
+    }
+}
+
+// An image as long as the sizes give.
+pub(crate) fn put(words: &mut [u32], sizes: &Sizes)
+    requires { length words.old ≡ whole.words sizes.now.settings }
+    ensures { words.new ≡ rule.fresh sizes.now.settings }
+{
+    put_settings(words, sizes.settings);
+    put_sections(words, sizes);
+}

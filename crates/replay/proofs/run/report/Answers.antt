@@ -1,0 +1,16 @@
+-- No legal settings need more words than the largest image has.
+use Rattle.std.proofs.Common.{◌≤◌, arith, sym, ◌∙◌, replicate}
+use lib.Seq.{length-take-le}
+use Rattle.replay.proofs.Runs as run
+use Rattle.replay.proofs.run.report.Goals as goal
+
+pub slice_bounds-room-end : goal.slice_bounds-room-end
+slice_bounds-room-end c = run.words_fit c.requires c.needed-n.ensures
+
+pub slice_bounds-run-end : goal.slice_bounds-run-end
+slice_bounds-run-end c =
+    sym (length-take-le c.needed-n.result (replicate 8209 0) (run.words_fit c.requires c.needed-n.ensures))
+
+pub run-requires : goal.run-requires
+run-requires c =
+    (c.requires, length-take-le c.needed-n.result (replicate 8209 0) (run.words_fit c.requires c.needed-n.ensures) ∙ c.needed-n.ensures)

@@ -11,6 +11,7 @@ ghost use Rattle.std.specs.Prelude.{◌≡◌, cond, length, leb, Ok, Err};
 ghost use Rattle.rules.specs.Program as program;
 ghost use Rattle.replay.specs.Short.{too_short};
 
+use reader::Schedule;
 use text::Text;
 
 // The buffer is too short for the text, and nothing was written.
@@ -18,15 +19,14 @@ use text::Text;
 pub struct TooShort;
 
 // What is written for any input.
+#[tactic(auto, unfolding(rules::specs::Program::output, rules::specs::Program::ascii))]
 fn output(input: &[u8]) -> Text
     ensures { result.bytes ≡ program.output input.now }
 {
-    if schedule::is_schedule(input) {
-        return run::report(input);
+    match Schedule::of(input) {
+        Some(schedule) => run::report(schedule),
+        None => text::of_line("bad input\n"),
     }
-    let mut text = Text::new();
-    text.push_str("bad input\n");
-    text
 }
 
 // A text at the start of a buffer, if it has room; how long the text is.

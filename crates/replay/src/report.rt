@@ -38,10 +38,8 @@ impl Report {
     pub fn new() -> Report
         ensures { (result.text.bytes ≡ header) × (result.tally ≡ nothing) }
     {
-        let mut text = Text::new();
-        text.push_str("step op code value\n");
         Report {
-            text,
+            text: text::of_line("step op code value\n"),
             tally: Tally::default(),
         }
     }

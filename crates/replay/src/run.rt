@@ -3,15 +3,14 @@ ghost use Rattle.std.specs.Prelude.{◌≡◌, ◌+◌, ◌*◌, ◌<◌, ◌≤
 ghost use Rattle.rules.specs.Image as whole;
 ghost use Rattle.rules.specs.SetUp as rule;
 ghost use Rattle.rules.specs.Program as program;
-ghost use Rattle.rules.proofs.Programs.{Says};
 ghost use Rattle.replay.specs.Five.{step_in};
 ghost use Rattle.replay.specs.Tally.{Low, Turned, Ran};
 
-use super::reader::Reader;
+use super::reader::{Reader, Schedule};
 use super::report::Report;
 use super::schedule::{Five, word};
-use super::text::Text;
 use super::text;
+use super::text::Text;
 
 // Step i: it is carried out, its line written, and counted.
 fn turn(image: &mut [u32], report: &mut Report, i: usize, s: Five)
@@ -26,22 +25,21 @@ fn turn(image: &mut [u32], report: &mut Report, i: usize, s: Five)
 }
 
 // The header and the steps, one after another.
-fn steps(input: &[u8], image: &mut [u32]) -> Report
-    requires { Says input.now }
-    ensures { Ran (program.given_steps input.now) image.old result }
+fn steps(schedule: Schedule, image: &mut [u32]) -> Report
+    ensures { Ran (program.given_steps schedule.entry.bytes.now) image.old result }
 {
     let mut report = Report::new();
-    for (i, step) in Reader::new(input).enumerate() {
+    for (i, step) in Reader::new(schedule).enumerate() {
         turn(image, &mut report, i, step);
     }
     report
 }
 
 // How many words an image of the schedule's settings has.
-fn needed(input: &[u8]) -> usize
-    requires { Says input.now }
-    ensures { result ≡ whole.words (program.given_settings input.now) }
+fn needed(schedule: Schedule) -> usize
+    ensures { result ≡ whole.words (program.given_settings schedule.entry.bytes.now) }
 {
+    let input = schedule.bytes;
     image::words_needed(
         word(input, 1),
         word(input, 2),
@@ -53,10 +51,11 @@ fn needed(input: &[u8]) -> usize
 }
 
 // Sets an image up with the schedule's settings.
-fn set_up(input: &[u8], image: &mut [u32])
-    requires { Says input.now × (length image.old ≡ whole.words (program.given_settings input.now)) }
-    ensures { image.new ≡ rule.fresh (program.given_settings input.now) }
+fn set_up(schedule: Schedule, image: &mut [u32])
+    requires { length image.old ≡ whole.words (program.given_settings schedule.bytes.now) }
+    ensures { image.new ≡ rule.fresh (program.given_settings schedule.entry.bytes.now) }
 {
+    let input = schedule.bytes;
     image::set_up(
         image,
         word(input, 1),
@@ -69,20 +68,19 @@ fn set_up(input: &[u8], image: &mut [u32])
 }
 
 // The report, on an image that is as long as the settings give.
-fn run(input: &[u8], image: &mut [u32]) -> Text
-    requires { Says input.now × (length image.old ≡ whole.words (program.given_settings input.now)) }
-    ensures { result.bytes ≡ program.report (program.given_settings input.now) (program.given_steps input.now) }
+fn run(schedule: Schedule, image: &mut [u32]) -> Text
+    requires { length image.old ≡ whole.words (program.given_settings schedule.bytes.now) }
+    ensures { result.bytes ≡ program.report (program.given_settings schedule.entry.bytes.now) (program.given_steps schedule.entry.bytes.now) }
 {
-    set_up(input, image);
-    steps(input, image).end()
+    set_up(schedule, image);
+    steps(schedule, image).end()
 }
 
 // The report of a schedule. No image has more words than this buffer.
-pub fn report(input: &[u8]) -> Text
-    requires { Says input.now }
-    ensures { result.bytes ≡ program.report (program.given_settings input.now) (program.given_steps input.now) }
+pub fn report(schedule: Schedule) -> Text
+    ensures { result.bytes ≡ program.report (program.given_settings schedule.entry.bytes.now) (program.given_steps schedule.entry.bytes.now) }
 {
     let mut room = [0u32; 8209];
-    let n = needed(input);
-    run(input, &mut room[..n])
+    let n = needed(schedule);
+    run(schedule, &mut room[..n])
 }

@@ -9,6 +9,16 @@ use itoa::Buffer;
 // A text that has room for the longest output.
 pub type Text = ArrayString<44075>;
 
+// A text of one line.
+pub fn of_line(line: &str) -> Text
+    requires { length line.now ≤ program.longest }
+    ensures { result.bytes ≡ line.now }
+{
+    let mut text = Text::new();
+    text.push_str(line);
+    text
+}
+
 // A number's digits, and what ends it.
 fn push_number(text: &mut Text, n: u32, end: &str)
     requires { length text.old.bytes + 10 + length end.now ≤ program.longest }

@@ -5,12 +5,12 @@ use Rattle.replay.proofs.Runs as run
 use Rattle.replay.proofs.run.report.Goals as goal
 
 pub slice_bounds-room-end : goal.slice_bounds-room-end
-slice_bounds-room-end c = run.words_fit c.requires c.needed-n.ensures
+slice_bounds-room-end c = run.words_fit c.args.schedule.says c.needed-n.ensures
 
 pub slice_bounds-run-end : goal.slice_bounds-run-end
 slice_bounds-run-end c =
-    sym (length-take-le c.needed-n.result (replicate 8209 0) (run.words_fit c.requires c.needed-n.ensures))
+    sym (length-take-le c.needed-n.result (replicate 8209 0) (run.words_fit c.args.schedule.says c.needed-n.ensures))
 
 pub run-requires : goal.run-requires
 run-requires c =
-    (c.requires, length-take-le c.needed-n.result (replicate 8209 0) (run.words_fit c.requires c.needed-n.ensures) ∙ c.needed-n.ensures)
+    (length-take-le c.needed-n.result (replicate 8209 0) (run.words_fit c.args.schedule.says c.needed-n.ensures) ∙ c.needed-n.ensures)

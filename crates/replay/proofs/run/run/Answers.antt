@@ -3,7 +3,7 @@ use Rattle.replay.proofs.Runs as run
 use Rattle.replay.proofs.run.run.Goals as goal
 
 pub end-requires : goal.end-requires
-end-requires c = run.total_room c.requires.0 c.steps.ensures
+end-requires c = run.total_room c.args.schedule.says c.steps.ensures
 
 pub returns : goal.returns
-returns c = run.reported c.requires.0 c.steps.ensures c.set_up.ensures c.end.ensures
+returns c = run.reported c.args.schedule.says c.steps.ensures c.set_up.ensures c.end.ensures

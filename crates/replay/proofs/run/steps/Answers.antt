@@ -19,14 +19,14 @@ turn-requires c =
     let g = c.loop-i.invariant.going in
     let s = c.in-Some.ensures.steps in
     let e = ap given_count c.loop-i.invariant.input in
-    (omega (arith, s.0.0, s.1, e, c.loop-i.invariant.place, c.requires.few), omega (arith, g.room, s.0.0, e, c.loop-i.invariant.place, c.requires.few), going_low g c.requires.few)
+    (omega (arith, s.0.0, s.1, e, c.loop-i.invariant.place, c.args.schedule.says.few), omega (arith, g.room, s.0.0, e, c.loop-i.invariant.place, c.args.schedule.says.few), going_low g c.args.schedule.says.few)
 
 pub loop-i-preserved : goal.loop-i-preserved
 loop-i-preserved c =
     let v = c.loop-i.invariant in
     let s = c.in-Some.ensures.steps in
     let e = ap given_count v.input in
-    let step = s.0.1 ∙ ap (λ I. given_step I (enumerate_source c.loop-i.i-iterator).at) v.input ∙ ap (given_step c.args.input.now) v.place in
+    let step = s.0.1 ∙ ap (λ I. given_step I (enumerate_source c.loop-i.i-iterator).at) v.input ∙ ap (given_step c.args.schedule.bytes.now) v.place in
     record {
       can = search rules;
       ends = search rules;

@@ -10,6 +10,6 @@ invariant-loop-i l = record {
   can : (goal.iterator-loop-i).can_next l.i-iterator;
   ends : (goal.iterator-loop-i).is_finite l.i-iterator;
   place : (enumerate_source l.i-iterator).at ≡ enumerate_count l.i-iterator;
-  input : (enumerate_source l.i-iterator).schedule.now ≡ l.input;
-  going : Going l.input l.fn.image (given_count l.input) l.image l.report (enumerate_count l.i-iterator)
+  input : (enumerate_source l.i-iterator).schedule.bytes.now ≡ l.fn.schedule.bytes.now;
+  going : Going l.fn.schedule.bytes.now l.fn.image (given_count l.fn.schedule.bytes.now) l.image l.report (enumerate_count l.i-iterator)
 }

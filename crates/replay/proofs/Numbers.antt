@@ -1,7 +1,6 @@
 -- A number's digits as the library prints them, and as the definition has them.
 use mathlib.Core.Path.{◌≡◌, sym}
-use mathlib.Core.List.{◌∷◌, [], ◌++◌}
-use Prim.Native.Nat.{ℕ, suc, ◌+◌, ◌/◌, ◌%◌, ◌^◌, ◌≤◌, ◌<◌}
+use Prim.Native.Nat.{ℕ, ◌^◌, ◌<◌}
 use native.Mathlib.Omega.{arith}
 use borrow.Author.Tests.{lt-ltb, le-ltb}
 use Rattle.std.specs.Fmt.{decimal as printed}

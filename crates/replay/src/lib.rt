@@ -30,6 +30,7 @@ fn output(input: &[u8]) -> Text
 }
 
 // A text at the start of a buffer, if it has room; how long the text is.
+#[tactic(auto, unfolding(rules::specs::Program::shown))]
 fn show(text: &[u8], out: &mut [u8]) -> Result<usize, TooShort>
     ensures { (result ≡ cond (leb (length text.now) (length out.old)) (Ok (length text.now)) (Err too_short)) × (out.new ≡ program.shown text.now out.old) }
 {

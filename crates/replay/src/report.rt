@@ -35,6 +35,7 @@ pub struct Report {
 
 impl Report {
     // The header.
+    #[tactic(auto, unfolding(rules::specs::Program::ascii))]
     pub fn new() -> Report
         ensures { (result.text.bytes ≡ header) × (result.tally ≡ nothing) }
     {

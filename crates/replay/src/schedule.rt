@@ -63,20 +63,15 @@ pub fn count(input: &[u8]) -> usize
 }
 
 // Whether the input is a schedule: any length, any content.
+#[tactic(auto, unfolding(rules::specs::Program::is_schedule))]
 pub fn is_schedule(input: &[u8]) -> bool
     ensures { result ≡ program.is_schedule input.now }
 {
-    if input.len() < BEFORE * 4 {
-        return false;
-    }
-    let n = count(input);
-    if n <= MOST {
-        (word(input, 0) == SETTINGS)
-            & (input.len() == (BEFORE + n * STEP) * 4)
-            & layout::legal(settings(input))
-    } else {
-        false
-    }
+    BEFORE * 4 <= input.len()
+        && word(input, 0) == SETTINGS
+        && count(input) <= MOST
+        && input.len() == (BEFORE + count(input) * STEP) * 4
+        && layout::legal(settings(input))
 }
 
 // Step i of the schedule.

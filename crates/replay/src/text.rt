@@ -20,6 +20,7 @@ pub fn of_line(line: &str) -> Text
 }
 
 // A number's digits, and what ends it.
+#[tactic(auto, using(crate::proofs::Numbers::printed_decimal))]
 fn push_number(text: &mut Text, n: u32, end: &str)
     requires { length text.old.bytes + 10 + length end.now ≤ program.longest }
     ensures bytes { text.new.bytes ≡ text.old.bytes ++ program.decimal n ++ end.now }
@@ -31,6 +32,7 @@ fn push_number(text: &mut Text, n: u32, end: &str)
 }
 
 // The line of step i.
+#[tactic(auto, unfolding(crate::specs::Line::line_of, rules::specs::Program::ascii))]
 pub fn push_line(text: &mut Text, i: u32, op: u32, number: u32, value: u32)
     requires { length text.old.bytes + 44 ≤ program.longest }
     ensures { text.new.bytes ≡ text.old.bytes ++ line_of i op number value }
@@ -42,6 +44,7 @@ pub fn push_line(text: &mut Text, i: u32, op: u32, number: u32, value: u32)
 }
 
 // The last line.
+#[tactic(auto, unfolding(rules::specs::Program::total, rules::specs::Program::ascii))]
 pub fn push_total(text: &mut Text, accepted: u32, refused: u32, freed: u32)
     requires { length text.old.bytes + 56 ≤ program.longest }
     ensures { text.new.bytes ≡ text.old.bytes ++ program.total accepted refused freed }

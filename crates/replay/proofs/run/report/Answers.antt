@@ -1,5 +1,5 @@
 -- No legal settings need more words than the largest image has.
-use Rattle.std.proofs.Common.{◌≤◌, arith, sym, ◌∙◌, replicate}
+use Rattle.std.proofs.Common.{sym, ◌∙◌, replicate}
 use lib.Seq.{length-take-le}
 use Rattle.replay.proofs.Runs as run
 use Rattle.replay.proofs.run.report.Goals as goal

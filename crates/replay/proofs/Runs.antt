@@ -4,7 +4,8 @@ use mathlib.Core.List.{List, [], ◌∷◌, ◌++◌, append_assoc, append-nil}
 use Prim.Native.Nat.{ℕ, ◌+◌, ◌*◌, ◌-◌, ◌≤◌, ◌<◌}
 use native.Mathlib.Nat.{sub-zero}
 use native.Mathlib.Omega.{arith}
-use lib.ListN.{length, length-append}
+use lib.ListN.{length, take, replicate, length-append}
+use lib.Seq.{length-take-le}
 use borrow.Author.Tests.{eq-eqb}
 use Rattle.rules.specs.declared.Reply.{Reply}
 use Rattle.rules.specs.Settings.{settings_of}
@@ -114,6 +115,9 @@ module _ {I : List ℕ} {a b c d e f : ℕ} (p : a ≡ word I 1) (q : b ≡ word
 -- an image needs no more words than the largest
 pub words_fit : {I : List ℕ} {n : ℕ} → Says I → n ≡ words (given_settings I) → n ≤ 8209
 words_fit {I} g e = omega (arith, e, words_most (legal_says (given_settings I) g.limits))
+
+pub part_long : {I : List ℕ} {n : ℕ} → Says I → n ≡ words (given_settings I) → length {A = ℕ} (take n (replicate 8209 0)) ≡ n
+part_long {n = n} g e = length-take-le n (replicate 8209 0) (words_fit g e)
 
 -- header, lines and total
 module _ {I J : List ℕ} {r : Report} (g : Says I) (h : Ran (given_steps I) J r) where

@@ -47,7 +47,7 @@ impl<'a> Reader<'a> {
 impl<'a> Iterator for Reader<'a> {
     type Item = Five;
 
-    ghost next_gives = { λ r step r'. MatchOption step (program.given_count r.schedule.bytes.now ≤ r.at)
+    ghost next_gives = { λ r step r'. MatchOption step ((program.given_count r.schedule.bytes.now ≤ r.at) × (r' ≡ r))
         (λ s. (r.at < program.given_count r.schedule.bytes.now) × (step_in s ≡ program.given_step r.schedule.bytes.now r.at) × (r'.schedule ≡ r.schedule) × (r'.at ≡ r.at + 1)) };
 
     ghost remaining = { λ r. at_most (program.given_count r.schedule.bytes.now - r.at) };

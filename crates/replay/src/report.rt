@@ -23,7 +23,7 @@ impl Tally {
     {
         self.accepted += u32::from(number == 0);
         self.refused += u32::from(number != 0);
-        self.freed += u32::from((op == 8) & (number == 0) & (value == 3));
+        self.freed += u32::from(op == 8 && number == 0 && value == 3);
     }
 }
 

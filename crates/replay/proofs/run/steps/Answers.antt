@@ -38,4 +38,4 @@ loop-i-preserved c =
 pub returns : goal.returns
 returns c =
     let e = ap given_count c.loop-i.invariant.input in
-    going_ran c.loop-i.invariant.going (omega (arith, c.in-None.ensures.steps.0, e, c.loop-i.invariant.place))
+    going_ran c.loop-i.invariant.going (omega (arith, c.in-None.ensures.steps.0.0, e, c.loop-i.invariant.place))

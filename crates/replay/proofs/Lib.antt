@@ -1,6 +1,3 @@
 -- What is proved beside the functions, for several of them.
-pub mod Puts
-pub mod Words
 pub mod Numbers
 pub mod Runs
-pub mod Shows

@@ -1,10 +1,11 @@
 -- A run step by step: what one step does, what holds after each, and the whole report.
-use mathlib.Core.Path.{◌≡◌, sym, ap, subst, ◌∙◌}
-use mathlib.Core.List.{List, [], ◌∷◌}
+use mathlib.Core.Path.{◌≡◌, sym, ap, ◌∙◌}
+use mathlib.Core.List.{List, [], ◌∷◌, ◌++◌, append_assoc, append-nil}
 use Prim.Native.Nat.{ℕ, ◌+◌, ◌*◌, ◌-◌, ◌≤◌, ◌<◌}
 use native.Mathlib.Nat.{sub-zero}
 use native.Mathlib.Omega.{arith}
-use lib.ListN.{length, length-append}
+use lib.ListN.{length, take, replicate, length-append}
+use lib.Seq.{length-take-le}
 use borrow.Author.Tests.{eq-eqb}
 use Rattle.rules.specs.declared.Reply.{Reply}
 use Rattle.rules.specs.Settings.{settings_of}
@@ -14,63 +15,55 @@ use Rattle.rules.specs.declared.Step.{Step}
 use Rattle.rules.specs.Replies.{number_of, value_of}
 use Rattle.rules.specs.Step.{step}
 use Rattle.rules.specs.Schedules.{outcomes}
-use Rattle.rules.specs.Program.{most_steps, word, given_settings, given_count, given_step, given_steps, steps_from, line, lines, accepted, refusals_among, freed, total, report, longest, ascii}
+use Rattle.rules.specs.Program.{ascii, most_steps, word, given_settings, given_count, given_step, given_steps, steps_from, line, lines, accepted, refusals_among, freed, total, report, longest}
 use Rattle.rules.proofs.Limits.{legal_says, words_most}
 use Rattle.rules.proofs.Programs.{Says, line_most, lines_most, steps_long, accepted_most, refusals_most, freed_most, steps_next, steps_none, lines_next, accepted_next, refusals_next, freed_next, lines_none, accepted_none, refusals_none, freed_none}
-use Rattle.replay.specs.declared.schedule.Five.{Five}
-use Rattle.replay.specs.declared.run.Tally.{Tally}
-use Rattle.replay.specs.Five.{step_in}
-use Rattle.replay.specs.Put.{put, Put, line_of}
-use Rattle.replay.specs.Tally.{Low, counted_in, Turned, Ran}
-use Rattle.replay.proofs.Puts.{put_none, put_more, then, long}
+use Rattle.replay.specs.declared.report.Report.{Report}
+use Rattle.replay.specs.Line.{line_of}
+use Rattle.replay.specs.Tally.{Low, counted_in, header, nothing, Turned, Ran}
 
--- a step as it was read, its reply, its line and its count make a turn
-pub turned : {f : Five} {s : Step} {J J' O O' : List ℕ} {t t' : Tally} {n v p : ℕ} (i : ℕ) (r : Reply) → step_in f ≡ s → outcome (number_of r) (value_of r) J' ≡ step J (step_in f) → n ≡ number_of r → v ≡ value_of r
-    → Put O O' t.at p (line_of i f.op n v) → t' ≡ counted_in t p f.op n v → Turned i s J J' O O' t t'
-unfolding counted_in line line_of
-turned {f} {s} {J} {J'} {O} {O'} {t} {t'} {n} {v} {p} i r d e a b h k =
-    let x : n ≡ (step J (step_in f)).number = a ∙ ap (λ o. o.number) e in
-    let y : v ≡ (step J (step_in f)).value = b ∙ ap (λ o. o.value) e in
-    let q : t'.at ≡ p = ap (λ z. z.at) k in
-    subst (λ (z : Step). Turned i z J J' O O' t t') d
-    (record {
+-- a step, its reply, its line and its count make a turn
+pub turned : {s : Step} {J J' : List ℕ} {r r' : Report} {n v : ℕ} (i : ℕ) (y : Reply) → outcome (number_of y) (value_of y) J' ≡ step J s → n ≡ number_of y → v ≡ value_of y
+    → r'.text.bytes ≡ r.text.bytes ++ line_of i s.op n v → r'.tally ≡ counted_in r.tally s.op n v → Turned i s J J' r r'
+unfolding line line_of
+turned {s} {J} {n = n} {v = v} i y e a b h k =
+    let p : n ≡ (step J s).number = a ∙ ap (λ o. o.number) e in
+    let q : v ≡ (step J s).value = b ∙ ap (λ o. o.value) e in
+    record {
       image = ap (λ o. o.image) e;
-      text = rw (q, ← x, ← y) h;
-      sums = k ∙ rw (q, ← x, ← y);
-    })
+      text = rw (← p, ← q) h;
+      sums = rw (← p, ← q) k;
+    }
 
 -- the lines of steps from step i on
 abbrev rest : ℕ → List ℕ → List Step → List ℕ
 rest i J ss = lines i ss (outcomes J ss)
 
 -- after i of n steps: what is still to be written and counted makes up what all n steps give from J₀ on
-pub record Going (I J₀ O₀ : List ℕ) (n at : ℕ) (J O : List ℕ) (t : Tally) (i : ℕ) : Type 0 where
+pub record Going (I J₀ : List ℕ) (n : ℕ) (J : List ℕ) (r : Report) (i : ℕ) : Type 0 where
   pub upto : i ≤ n
-  pub room : t.at ≤ at + i * 44
-  pub text : put O t.at (rest i J (steps_from I i (n - i))) ≡ put O₀ at (rest 0 J₀ (steps_from I 0 n))
-  pub end : t.at + length (rest i J (steps_from I i (n - i))) ≡ at + length (rest 0 J₀ (steps_from I 0 n))
-  pub accepted : t.accepted + accepted (outcomes J (steps_from I i (n - i))) ≡ accepted (outcomes J₀ (steps_from I 0 n))
-  pub refused : t.refused + refusals_among (outcomes J (steps_from I i (n - i))) ≡ refusals_among (outcomes J₀ (steps_from I 0 n))
-  pub freed : t.freed + freed (steps_from I i (n - i)) (outcomes J (steps_from I i (n - i))) ≡ freed (steps_from I 0 n) (outcomes J₀ (steps_from I 0 n))
+  pub room : length r.text.bytes ≤ 19 + i * 44
+  pub text : r.text.bytes ++ rest i J (steps_from I i (n - i)) ≡ header ++ rest 0 J₀ (steps_from I 0 n)
+  pub accepted : r.tally.accepted + accepted (outcomes J (steps_from I i (n - i))) ≡ accepted (outcomes J₀ (steps_from I 0 n))
+  pub refused : r.tally.refused + refusals_among (outcomes J (steps_from I i (n - i))) ≡ refusals_among (outcomes J₀ (steps_from I 0 n))
+  pub freed : r.tally.freed + freed (steps_from I i (n - i)) (outcomes J (steps_from I i (n - i))) ≡ freed (steps_from I 0 n) (outcomes J₀ (steps_from I 0 n))
 
-abbrev nothing : ℕ → Tally
-nothing at = record { at = at; accepted = 0; refused = 0; freed = 0 }
-
-pub going_none : (I J O : List ℕ) (n at : ℕ) → Going I J O n at J O (nothing at) 0
-going_none I J O n at =
+pub going_none : (I J : List ℕ) (n : ℕ) {r : Report} {i : ℕ} → r.text.bytes ≡ header → r.tally ≡ nothing → i ≡ 0 → Going I J n J r i
+unfolding ascii
+going_none I J n {r} {i} t z o =
     let e : n - 0 ≡ n = sub-zero n in
-    record {
+    rw o
+    (record {
       upto = omega arith;
-      room = omega arith;
-      text = rw e;
-      end = rw e;
-      accepted = rw e (omega arith);
-      refused = rw e (omega arith);
-      freed = rw e (omega arith);
-    }
+      room = omega (arith, ap length t);
+      text = rw (e, t);
+      accepted = rw (e, z) (omega arith);
+      refused = rw (e, z) (omega arith);
+      freed = rw (e, z) (omega arith);
+    })
 
-module _ {I J₀ O₀ : List ℕ} {n at : ℕ} {J O : List ℕ} {t : Tally} {i : ℕ} (g : Going I J₀ O₀ n at J O t i) where
-  pub going_low : n ≤ most_steps → Low t
+module _ {I J₀ : List ℕ} {n : ℕ} {J : List ℕ} {r : Report} {i : ℕ} (g : Going I J₀ n J r i) where
+  pub going_low : n ≤ most_steps → Low r.tally
   going_low h = record {
     accepted = omega (arith, g.accepted, accepted_most J₀ (steps_from I 0 n), steps_long I 0 n);
     refused = omega (arith, g.refused, refusals_most J₀ (steps_from I 0 n), steps_long I 0 n);
@@ -78,31 +71,29 @@ module _ {I J₀ O₀ : List ℕ} {n at : ℕ} {J O : List ℕ} {t : Tally} {i :
   }
 
   -- one step more
-  pub going_more : {J' O' : List ℕ} {t' : Tally} → i < n → at + n * 44 ≤ length O → Turned i (given_step I i) J J' O O' t t'
-      → Going I J₀ O₀ n at J' O' t' (i + 1)
+  pub going_more : {J' : List ℕ} {r' : Report} {i' : ℕ} → i < n → Turned i (given_step I i) J J' r r' → i' ≡ i + 1 → Going I J₀ n J' r' i'
   unfolding counted_in
-  going_more {J'} {O'} {t'} h l u =
+  going_more {J'} {r'} {i'} h u o =
       let s : Step = given_step I i in
       let ss : List Step = steps_from I (i + 1) (n - (i + 1)) in
       let K : List ℕ = (step J (given_step I i)).image in
       let e : steps_from I i (n - i) ≡ given_step I i ∷ steps_from I (i + 1) (n - (i + 1)) = steps_next I i n h in
-      let p : t.at ≤ length O = omega (arith, g.room) in
       let w = lines_next J s ss i in
-      record {
+      rw o
+      (record {
         upto = omega arith;
-        room = omega (arith, g.room, u.text.end, line_most i s (step J s));
-        text = rw (u.image, u.text.all, u.text.end) (put_more O t.at (line i s (step J s)) (rest (i + 1) K ss) p ∙ rw (e, w) at g.text);
-        end = rw u.image (omega (arith, u.text.end, length-append (line i s (step J s)) (rest (i + 1) K ss), rw (e, w) at g.end));
+        room = omega (arith, g.room, ap length u.text, length-append r.text.bytes (line i s (step J s)), line_most i s (step J s));
+        text = rw (u.image, u.text) (append_assoc r.text.bytes (line i s (step J s)) (rest (i + 1) K ss) ∙ rw (e, w) at g.text);
         accepted = rw u.image (omega (arith, ap (λ z. z.accepted) u.sums, rw (e, accepted_next J s ss) at g.accepted));
         refused = rw u.image (omega (arith, ap (λ z. z.refused) u.sums, rw (e, refusals_next J s ss) at g.refused));
         freed = rw u.image (omega (arith, ap (λ z. z.freed) u.sums, rw (e, freed_next J s ss) at g.freed));
-      }
+      })
 
-  pub going_ran : n ≤ i → at + n * 44 ≤ length O → Ran (steps_from I 0 n) J₀ O₀ O at t
-  going_ran h l =
+  pub going_ran : n ≤ i → Ran (steps_from I 0 n) J₀ r
+  going_ran h =
       let e : steps_from I i (n - i) ≡ [] = steps_none I i n h in
       record {
-        text = record { all = sym (put_none O t.at) ∙ rw (e, lines_none J i) at g.text; end = omega (arith, rw (e, lines_none J i) at g.end) };
+        text = sym (append-nil r.text.bytes) ∙ rw (e, lines_none J i) at g.text;
         accepted = omega (arith, rw (e, accepted_none J) at g.accepted);
         refused = omega (arith, rw (e, refusals_none J) at g.refused);
         freed = omega (arith, rw (e, freed_none J) at g.freed);
@@ -126,25 +117,17 @@ module _ {I : List ℕ} {a b c d e f : ℕ} (p : a ≡ word I 1) (q : b ≡ word
 pub words_fit : {I : List ℕ} {n : ℕ} → Says I → n ≡ words (given_settings I) → n ≤ 8209
 words_fit {I} g e = omega (arith, e, words_most (legal_says (given_settings I) g.limits))
 
+pub part_long : {I : List ℕ} {n : ℕ} → Says I → n ≡ words (given_settings I) → length {A = ℕ} (take n (replicate 8209 0)) ≡ n
+part_long {n = n} g e = length-take-le n (replicate 8209 0) (words_fit g e)
+
 -- header, lines and total
-module _ {I J O O₁ O₂ : List ℕ} {n p : ℕ} {t : Tally} (g : Says I) (l : length O ≡ longest) (m : n ≡ given_count I)
-    (h : Put O O₁ 0 p (ascii "step op code value\n")) (r : Ran (steps_from I 0 n) J O₁ O₂ p t) where
-  header_long : (p ≡ 19) × (length O₁ ≡ longest)
+module _ {I J : List ℕ} {r : Report} (g : Says I) (h : Ran (given_steps I) J r) where
+  pub total_room : length r.text.bytes + 56 ≤ longest
   unfolding ascii
-  header_long =
-      let q : 0 + 19 ≤ length O = omega arith in
-      (omega (arith, h.end), long q h ∙ l)
-
-  pub total_room : t.at + 56 ≤ length O₂
   total_room =
-      let k = lines_most 0 (steps_from I 0 n) (outcomes J (steps_from I 0 n)) in
-      let q : p + length (rest 0 J (steps_from I 0 n)) ≤ length O₁ = omega (arith, header_long, steps_long I 0 n, g.few) in
-      omega (arith, r.text.end, header_long, steps_long I 0 n, g.few, long q r.text)
+      let k = lines_most 0 (given_steps I) (outcomes J (given_steps I)) in
+      omega (arith, ap length h.text, length-append header (rest 0 J (given_steps I)), steps_long I 0 (given_count I), g.few)
 
-  pub reported : {O₃ : List ℕ} {x : ℕ} → J ≡ fresh (given_settings I) → Put O₂ O₃ t.at x (total t.accepted t.refused t.freed)
-      → Put O O₃ 0 x (report (given_settings I) (given_steps I))
+  pub reported : {t : List ℕ} → J ≡ fresh (given_settings I) → t ≡ r.text.bytes ++ total r.tally.accepted r.tally.refused r.tally.freed → t ≡ report (given_settings I) (given_steps I)
   unfolding report
-  reported {O₃} {x} j z =
-      let q : p ≤ length O₁ = omega (arith, header_long) in
-      let w = rw (r.accepted, r.refused, r.freed) at z in
-      rw (← m, ← j) (then (omega arith) h (then q r.text w))
+  reported j z = z ∙ rw (h.text, h.accepted, h.refused, h.freed, j) (append_assoc header _ _)

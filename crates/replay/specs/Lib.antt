@@ -1,4 +1,5 @@
 -- What the contracts of this crate cite besides the rules.
 pub mod Five
-pub mod Put
+pub mod Line
+pub mod Short
 pub mod Tally

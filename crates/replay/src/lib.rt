@@ -2,49 +2,50 @@
 #![tactic(auto)]
 
 mod reader;
+mod report;
 mod run;
 pub mod schedule;
 mod text;
 
-ghost use Rattle.std.specs.Prelude.{◌≡◌, cond, length, leb};
+ghost use Rattle.std.specs.Prelude.{◌≡◌, cond, length, leb, Ok, Err};
 ghost use Rattle.rules.specs.Program as program;
-ghost use Rattle.replay.specs.Put.{Put};
+ghost use Rattle.replay.specs.Short.{too_short};
 
-// All was written, and how many bytes; or the buffer is too short, and nothing was.
-#[derive(Clone, Copy)]
-pub enum Written {
-    All(usize),
-    TooShort,
-}
+use reader::Schedule;
+use text::Text;
+
+// The buffer is too short for the text, and nothing was written.
+#[derive(Clone, Copy, Debug, PartialEq, Eq)]
+pub struct TooShort;
 
 // What is written for any input.
-fn output(input: &[u8], text: &mut [u8]) -> usize
-    requires { length text.old ≡ program.longest }
-    ensures { Put text.old text.new 0 result (program.output input.now) }
+#[tactic(auto, unfolding(rules::specs::Program::output, rules::specs::Program::ascii))]
+fn output(input: &[u8]) -> Text
+    ensures { result.bytes ≡ program.output input.now }
 {
-    if schedule::is_schedule(input) {
-        run::report(input, text)
-    } else {
-        text::put_text(text, 0, b"bad input\n")
+    match Schedule::of(input) {
+        Some(schedule) => run::report(schedule),
+        None => text::of_line("bad input\n"),
     }
 }
 
-// A text at the start of a buffer, if it has room.
-fn show(text: &[u8], out: &mut [u8]) -> Written
-    ensures { (result ≡ cond (leb (length text.now) (length out.old)) (Written.All (length text.now)) Written.TooShort) × (out.new ≡ program.shown text.now out.old) }
+// A text at the start of a buffer, if it has room; how long the text is.
+#[tactic(auto, unfolding(rules::specs::Program::shown))]
+fn show(text: &[u8], out: &mut [u8]) -> Result<usize, TooShort>
+    ensures { (result ≡ cond (leb (length text.now) (length out.old)) (Ok (length text.now)) (Err too_short)) × (out.new ≡ program.shown text.now out.old) }
 {
-    if text.len() <= out.len() {
-        Written::All(text::put_text(out, 0, text))
+    let n = text.len();
+    if n <= out.len() {
+        out[..n].copy_from_slice(text);
+        Ok(n)
     } else {
-        Written::TooShort
+        Err(TooShort)
     }
 }
 
-// Replays a schedule: any input, of any length. A buffer that is too short is left as it is.
-pub fn replay(input: &[u8], out: &mut [u8]) -> Written
-    ensures { (result ≡ cond (leb (length (program.output input.now)) (length out.old)) (Written.All (length (program.output input.now))) Written.TooShort) × (out.new ≡ program.shown (program.output input.now) out.old) }
+// Replays a schedule: any input, of any length. How long the text is that was written; a buffer that is too short is left as it is.
+pub fn replay(input: &[u8], out: &mut [u8]) -> Result<usize, TooShort>
+    ensures { (result ≡ cond (leb (length (program.output input.now)) (length out.old)) (Ok (length (program.output input.now))) (Err too_short)) × (out.new ≡ program.shown (program.output input.now) out.old) }
 {
-    let mut text = [0u8; 44075];
-    let n = output(input, &mut text);
-    show(&text[..n], out)
+    show(output(input).as_bytes(), out)
 }

@@ -1,10 +1,9 @@
 // The input's words: whether they are a schedule, its settings, its steps.
-ghost use Rattle.std.specs.Prelude.{◌≡◌, ◌+◌, ◌*◌, ◌<◌, ◌≤◌, length};
+ghost use Rattle.std.specs.Prelude.{◌≡◌, ◌+◌, ◌*◌, ◌≤◌, length};
 ghost use Rattle.rules.specs.Program as program;
 ghost use Rattle.replay.specs.Five.{step_in, Inside};
 
 use image::layout;
-use image::layout::wide;
 use rules::Settings;
 
 // How many settings there are, the word that counts the steps, the words before them, the words of each, and the most steps.
@@ -28,12 +27,6 @@ pub struct Five {
     pub c: u32,
 }
 
-fn byte(x: u8) -> u32
-    ensures { (result ≡ x) × (result < 256) }
-{
-    x as u32
-}
-
 // Word i of the input, from four bytes, the lowest first.
 #[tactic(auto, unfolding(rules::specs::Program::word))]
 pub fn word(input: &[u8], i: usize) -> u32
@@ -41,10 +34,7 @@ pub fn word(input: &[u8], i: usize) -> u32
     ensures { result ≡ program.word input.now i }
 {
     let at = i * 4;
-    byte(input[at])
-        + byte(input[at + 1]) * 256
-        + byte(input[at + 2]) * 65536
-        + byte(input[at + 3]) * 16777216
+    u32::from_le_bytes([input[at], input[at + 1], input[at + 2], input[at + 3]])
 }
 
 // The settings that the input gives.
@@ -54,12 +44,12 @@ fn settings(input: &[u8]) -> Settings
     ensures { result ≡ program.given_settings input.now }
 {
     Settings {
-        threads: wide(word(input, 1)),
-        slots: wide(word(input, 2)),
-        cells: wide(word(input, 3)),
-        records: wide(word(input, 4)),
-        threshold: wide(word(input, 5)),
-        start: wide(word(input, 6)),
+        threads: word(input, 1) as usize,
+        slots: word(input, 2) as usize,
+        cells: word(input, 3) as usize,
+        records: word(input, 4) as usize,
+        threshold: word(input, 5) as usize,
+        start: word(input, 6) as usize,
     }
 }
 
@@ -69,24 +59,19 @@ pub fn count(input: &[u8]) -> usize
     requires { program.before_steps * 4 ≤ length input.now }
     ensures { result ≡ program.given_count input.now }
 {
-    wide(word(input, COUNT))
+    word(input, COUNT) as usize
 }
 
 // Whether the input is a schedule: any length, any content.
+#[tactic(auto, unfolding(rules::specs::Program::is_schedule))]
 pub fn is_schedule(input: &[u8]) -> bool
     ensures { result ≡ program.is_schedule input.now }
 {
-    if input.len() < BEFORE * 4 {
-        return false;
-    }
-    let n = count(input);
-    if n <= MOST {
-        (word(input, 0) == SETTINGS)
-            & (input.len() == (BEFORE + n * STEP) * 4)
-            & layout::legal(settings(input))
-    } else {
-        false
-    }
+    BEFORE * 4 <= input.len()
+        && word(input, 0) == SETTINGS
+        && count(input) <= MOST
+        && input.len() == (BEFORE + count(input) * STEP) * 4
+        && layout::legal(settings(input))
 }
 
 // Step i of the schedule.

@@ -3,7 +3,6 @@
 
 ghost use Rattle.std.specs.Prelude.{◌≤◌, length, IfOk};
 
-use replay::Written;
 use std::io;
 use std::io::{Read, Write};
 
@@ -27,7 +26,7 @@ fn main(rt: HostRuntime) -> io::Result<()> {
     let mut input = [0u8; 20033];
     let n = read_full(&mut rt.stdin(), &mut input)?;
     let mut out = [0u8; 44075];
-    if let Written::All(k) = replay::replay(&input[..n], &mut out) {
+    if let Ok(k) = replay::replay(&input[..n], &mut out) {
         rt.stdout().write_all(&out[..k])?;
     }
     Ok(())

@@ -1,7 +1,7 @@
 // Schedules: how many bytes go in and come out, the input, the output.
 use super::{Outcome, read, tell};
 use image::layout::wide;
-use replay::Written;
+use replay::TooShort;
 use std::io;
 use std::io::Read;
 
@@ -18,8 +18,8 @@ fn compared(
     expected: &[u8],
 ) -> io::Result<Outcome> {
     let n = match replay::replay(input, given) {
-        Written::All(n) => n,
-        Written::TooShort => given.len(),
+        Ok(n) => n,
+        Err(TooShort) => given.len(),
     };
     let a = tell::number(rt, false, name, i, b"length", n, expected.len())?;
     let b = tell::bytes(rt, a, name, i, given, expected)?;

@@ -4,4 +4,4 @@ use Rattle.replay.proofs.run.set_up.Goals as goal
 
 pub returns : goal.returns
 returns c =
-    run.sets_up c.word.ensures c.word-2.ensures c.word-3.ensures c.word-4.ensures c.word-5.ensures c.word-6.ensures c.requires.0 c.args.image.now c.requires.1 c.set_up.ensures
+    run.sets_up c.word.ensures c.word-2.ensures c.word-3.ensures c.word-4.ensures c.word-5.ensures c.word-6.ensures c.args.schedule.says c.args.image.now c.requires c.set_up.ensures

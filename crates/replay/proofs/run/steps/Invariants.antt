@@ -1,10 +1,15 @@
--- The loop's invariant: what is still to come makes up what all steps give. The measure is how many steps are left.
-use Rattle.std.proofs.Common.{◌-◌}
+-- The loop's invariant: what is still to come makes up what all steps give, and the reader is at the next step.
+use Rattle.std.proofs.Common.{◌≡◌}
+use Rattle.std.specs.Iterator.Adapters.{enumerate_source, enumerate_count}
+use Rattle.rules.specs.Program.{given_count}
 use Rattle.replay.proofs.Runs.{Going}
 use Rattle.replay.proofs.run.steps.Given as goal
 
 abbrev pub invariant-loop-i : goal.invariant-loop-i
-invariant-loop-i l = Going l.input l.fn.image l.fn.out l.n l.at l.image l.out l.t l.i
-
-abbrev pub decreases-loop-i : goal.decreases-loop-i
-decreases-loop-i l = l.n - l.i
+invariant-loop-i l = record {
+  can : (goal.iterator-loop-i).can_next l.i-iterator;
+  ends : (goal.iterator-loop-i).is_finite l.i-iterator;
+  place : (enumerate_source l.i-iterator).at ≡ enumerate_count l.i-iterator;
+  input : (enumerate_source l.i-iterator).schedule.bytes.now ≡ l.fn.schedule.bytes.now;
+  going : Going l.fn.schedule.bytes.now l.fn.image (given_count l.fn.schedule.bytes.now) l.image l.report (enumerate_count l.i-iterator);
+}

@@ -11,6 +11,8 @@ ghost use Rattle.rules.specs.Replies.{step_of};
 ghost use Rattle.rules.specs.Step.{step};
 ghost use Rattle.rules.specs.ListQuestion.{list_number, list_from, list_many};
 
+use rules::{Settings, Step};
+
 // What a step answers.
 #[repr(C)]
 #[derive(Clone, Copy)]
@@ -40,7 +42,8 @@ pub extern "C" fn ernuvald_words(
 ) -> u32
     ensures { result ≡ words_needed (settings_of threads slots cells records threshold start) }
 {
-    image::words_needed(threads, slots, cells, records, threshold, start) as u32
+    let settings = Settings::from([threads, slots, cells, records, threshold, start]);
+    image::words_needed(settings) as u32
 }
 
 // Sets an image up. The number: 0, or 12 or 13, and then no word is changed.
@@ -56,7 +59,11 @@ pub extern "C" fn ernuvald_set_up(
 ) -> u32
     ensures { outcome result 0 image.new ≡ set_up (settings_of threads slots cells records threshold start) image.old }
 {
-    image::set_up(image, threads, slots, cells, records, threshold, start)
+    let settings = Settings::from([threads, slots, cells, records, threshold, start]);
+    match image::set_up(image, settings) {
+        Ok(()) => 0,
+        Err(why) => u32::from(why),
+    }
 }
 
 // One step.
@@ -71,7 +78,7 @@ pub extern "C" fn ernuvald_step(
 ) -> Reply
     ensures { outcome result.number result.value image.new ≡ step image.old (step_of thread op a b c) }
 {
-    let reply = machine::step(image, thread, op, a, b, c);
+    let reply = machine::step(image, Step { thread, op, a, b, c });
     Reply {
         number: rules::number(reply),
         value: rules::value(reply),
@@ -83,11 +90,17 @@ pub extern "C" fn ernuvald_step(
 pub extern "C" fn ernuvald_retired(image: &[u32], thread: u32) -> Part
     ensures { (result.number ≡ list_number image.now thread) × (result.from ≡ list_from image.now thread) × (result.length ≡ list_many image.now thread) }
 {
-    let part = machine::retired_at(image, thread);
-    Part {
-        number: part.number,
-        from: part.from,
-        length: part.length,
+    match machine::retired_at(image, thread) {
+        Ok(part) => Part {
+            number: 0,
+            from: part.from,
+            length: part.length,
+        },
+        Err(why) => Part {
+            number: u32::from(why),
+            from: 0,
+            length: 0,
+        },
     }
 }
 
@@ -96,5 +109,5 @@ pub extern "C" fn ernuvald_retired(image: &[u32], thread: u32) -> Part
 pub extern "C" fn ernuvald_damaged(image: &[u32]) -> u32
     ensures { result ≡ bit (rule.damaged image.now) }
 {
-    if image::damaged(image) { 1 } else { 0 }
+    u32::from(image::damaged(image))
 }

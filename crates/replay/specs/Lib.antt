@@ -1,5 +1,5 @@
 -- What the contracts of this crate cite besides the rules.
-pub mod Five
 pub mod Line
 pub mod Short
+pub mod Steps
 pub mod Tally

@@ -3,10 +3,9 @@ ghost use Rattle.std.specs.Prelude.{◌≡◌, ◌+◌, ◌-◌, ◌<◌, ◌≤
 ghost use Rattle.std.specs.Iterator.{at_most};
 ghost use Rattle.rules.specs.Program as program;
 ghost use Rattle.rules.proofs.Programs.{Says};
-ghost use Rattle.replay.specs.Five.{step_in};
 
 use super::schedule;
-use super::schedule::Five;
+use rules::Step;
 
 // An input that is a schedule.
 #[derive(Clone, Copy)]
@@ -45,15 +44,15 @@ impl<'a> Reader<'a> {
 }
 
 impl<'a> Iterator for Reader<'a> {
-    type Item = Five;
+    type Item = Step;
 
     ghost next_gives = { λ r step r'. MatchOption step ((program.given_count r.schedule.bytes.now ≤ r.at) × (r' ≡ r))
-        (λ s. (r.at < program.given_count r.schedule.bytes.now) × (step_in s ≡ program.given_step r.schedule.bytes.now r.at) × (r'.schedule ≡ r.schedule) × (r'.at ≡ r.at + 1)) };
+        (λ s. (r.at < program.given_count r.schedule.bytes.now) × (s ≡ program.given_step r.schedule.bytes.now r.at) × (r'.schedule ≡ r.schedule) × (r'.at ≡ r.at + 1)) };
 
     ghost remaining = { λ r. at_most (program.given_count r.schedule.bytes.now - r.at) };
 
     // Reads the step at the reader's place, and moves on to the one behind it.
-    fn next(&mut self) -> Option<Five> {
+    fn next(&mut self) -> Option<Step> {
         let bytes = self.schedule.bytes;
         let i = self.at;
         if i < schedule::count(bytes) {

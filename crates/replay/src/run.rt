@@ -3,25 +3,24 @@ ghost use Rattle.std.specs.Prelude.{◌≡◌, ◌+◌, ◌*◌, ◌<◌, ◌≤
 ghost use Rattle.rules.specs.Image as whole;
 ghost use Rattle.rules.specs.SetUp as rule;
 ghost use Rattle.rules.specs.Program as program;
-ghost use Rattle.replay.specs.Five.{step_in};
 ghost use Rattle.replay.specs.Tally.{Low, Turned, Ran};
 
 use super::reader::{Reader, Schedule};
 use super::report::Report;
-use super::schedule::{Five, word};
-use super::text;
 use super::text::Text;
+use super::{schedule, text};
+use rules::Step;
 
 // Step i: it is carried out, its line written, and counted.
-fn turn(image: &mut [u32], report: &mut Report, i: usize, s: Five)
+fn turn(image: &mut [u32], report: &mut Report, i: usize, step: Step)
     requires { (i < program.most_steps) × (length report.old.text.bytes + 44 ≤ program.longest) × Low report.old.tally }
-    ensures { Turned i (step_in s) image.old image.new report.old report.new }
+    ensures { Turned i step image.old image.new report.old report.new }
 {
-    let reply = machine::step(image, s.thread, s.op, s.a, s.b, s.c);
+    let reply = machine::step(image, step);
     let number = rules::number(reply);
     let value = rules::value(reply);
-    text::push_line(&mut report.text, i as u32, s.op, number, value);
-    report.tally.count(s.op, number, value);
+    text::push_line(&mut report.text, i as u32, step.op, number, value);
+    report.tally.count(step.op, number, value);
 }
 
 // The header and the steps, one after another.
@@ -39,15 +38,7 @@ fn steps(schedule: Schedule, image: &mut [u32]) -> Report
 fn needed(schedule: Schedule) -> usize
     ensures { result ≡ whole.words (program.given_settings schedule.entry.bytes.now) }
 {
-    let input = schedule.bytes;
-    image::words_needed(
-        word(input, 1),
-        word(input, 2),
-        word(input, 3),
-        word(input, 4),
-        word(input, 5),
-        word(input, 6),
-    )
+    image::words_needed(schedule::settings(schedule.bytes))
 }
 
 // Sets an image up with the schedule's settings.
@@ -55,16 +46,7 @@ fn set_up(schedule: Schedule, image: &mut [u32])
     requires { length image.old ≡ whole.words (program.given_settings schedule.bytes.now) }
     ensures { image.new ≡ rule.fresh (program.given_settings schedule.entry.bytes.now) }
 {
-    let input = schedule.bytes;
-    image::set_up(
-        image,
-        word(input, 1),
-        word(input, 2),
-        word(input, 3),
-        word(input, 4),
-        word(input, 5),
-        word(input, 6),
-    );
+    image::set_up(image, schedule::settings(schedule.bytes)).unwrap();
 }
 
 // The report, on an image that is as long as the settings give.

@@ -1,10 +1,10 @@
 // The input's words: whether they are a schedule, its settings, its steps.
 ghost use Rattle.std.specs.Prelude.{◌≡◌, ◌+◌, ◌*◌, ◌≤◌, length};
 ghost use Rattle.rules.specs.Program as program;
-ghost use Rattle.replay.specs.Five.{step_in, Inside};
+ghost use Rattle.replay.specs.Steps.{Inside};
 
-use image::layout;
-use rules::Settings;
+use image::sizes;
+use rules::{Settings, Step};
 
 // How many settings there are, the word that counts the steps, the words before them, the words of each, and the most steps.
 const SETTINGS: u32 = 6;
@@ -16,16 +16,6 @@ const BEFORE: usize = 8;
 const STEP: usize = 5;
 
 const MOST: usize = 1000;
-
-// A step: five words.
-#[derive(Clone, Copy)]
-pub struct Five {
-    pub thread: u32,
-    pub op: u32,
-    pub a: u32,
-    pub b: u32,
-    pub c: u32,
-}
 
 // Word i of the input, from four bytes, the lowest first.
 #[tactic(auto, unfolding(rules::specs::Program::word))]
@@ -39,18 +29,18 @@ pub fn word(input: &[u8], i: usize) -> u32
 
 // The settings that the input gives.
 #[tactic(auto, unfolding(rules::specs::Program::given_settings))]
-fn settings(input: &[u8]) -> Settings
+pub(crate) fn settings(input: &[u8]) -> Settings
     requires { program.before_steps * 4 ≤ length input.now }
     ensures { result ≡ program.given_settings input.now }
 {
-    Settings {
-        threads: word(input, 1) as usize,
-        slots: word(input, 2) as usize,
-        cells: word(input, 3) as usize,
-        records: word(input, 4) as usize,
-        threshold: word(input, 5) as usize,
-        start: word(input, 6) as usize,
-    }
+    Settings::from([
+        word(input, 1),
+        word(input, 2),
+        word(input, 3),
+        word(input, 4),
+        word(input, 5),
+        word(input, 6),
+    ])
 }
 
 // How many steps the input says it has.
@@ -71,17 +61,17 @@ pub fn is_schedule(input: &[u8]) -> bool
         && word(input, 0) == SETTINGS
         && count(input) <= MOST
         && input.len() == (BEFORE + count(input) * STEP) * 4
-        && layout::legal(settings(input))
+        && sizes::legal(settings(input))
 }
 
 // Step i of the schedule.
 #[tactic(auto, unfolding(rules::specs::Program::given_step))]
-pub fn step_at(input: &[u8], i: usize) -> Five
+pub fn step_at(input: &[u8], i: usize) -> Step
     requires { Inside input.now i }
-    ensures { step_in result ≡ program.given_step input.now i }
+    ensures { result ≡ program.given_step input.now i }
 {
     let w = BEFORE + i * STEP;
-    Five {
+    Step {
         thread: word(input, w),
         op: word(input, w + 1),
         a: word(input, w + 2),

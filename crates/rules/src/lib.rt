@@ -44,7 +44,7 @@ pub struct Step {
 }
 
 // Document 01, Steps: the operations 0 to 10.
-#[derive(Clone, Copy, PartialEq, Eq)]
+#[derive(Clone, Copy, Debug, PartialEq, Eq)]
 pub enum Operation {
     Allocate,
     Swap,
@@ -60,7 +60,7 @@ pub enum Operation {
 }
 
 // Document 01, Phases: 0 to 7.
-#[derive(Clone, Copy, PartialEq, Eq)]
+#[derive(Clone, Copy, Debug, PartialEq, Eq)]
 pub enum Phase {
     Idle,
     Loaded,
@@ -73,7 +73,7 @@ pub enum Phase {
 }
 
 // Document 01, The image: the kinds of words; the six of a thread, and a list's length and entries, are a kind each.
-#[derive(Clone, Copy, PartialEq, Eq)]
+#[derive(Clone, Copy, Debug, PartialEq, Eq)]
 pub enum Kind {
     Cell,
     Status,
@@ -94,7 +94,7 @@ pub enum Kind {
 }
 
 // Why a step is refused: document 01, Replies by number, 1 to 11.
-#[derive(Clone, Copy, PartialEq, Eq)]
+#[derive(Clone, Copy, Debug, PartialEq, Eq)]
 pub enum Why {
     Damaged = 1,
     NoSuchOperation,
@@ -163,7 +163,7 @@ impl TryFrom<u32> for Phase {
 }
 
 // Why a set-up is refused: document 01, Replies by number, 12 and 13.
-#[derive(Clone, Copy, PartialEq, Eq)]
+#[derive(Clone, Copy, Debug, PartialEq, Eq)]
 pub enum NoSetUp {
     SettingBeyond = 12,
     WrongLength,

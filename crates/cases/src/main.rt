@@ -6,6 +6,12 @@ mod replies;
 
 use std::io;
 
+// The number of a set-up with these settings: threads, slots, cells, records, threshold, start.
+fn set_up(words: &mut [u32], settings: [u32; 6]) -> u32 {
+    let [threads, slots, cells, records, threshold, start] = settings;
+    image::set_up(words, threads, slots, cells, records, threshold, start)
+}
+
 fn say(rt: &impl Print, name: &str, passed: bool) -> io::Result<()> {
     let outcome = if passed { "passed" } else { "FAILED" };
     println!(rt; "{name}: {outcome}")

@@ -1,44 +1,22 @@
--- Laws on lists of words, as they are read and compared.
-use mathlib.Core.Path.{◌≡◌, sym, ◌∙◌}
-use mathlib.Core.List.{List}
-use Prim.Native.Nat.{ℕ, ◌+◌, ◌≤◌, ◌<◌}
-use native.Mathlib.Omega.{arith}
-use borrow.Author.Count.{below_none, below_more}
-use borrow.Author.Rules.{read_below}
-use lib.ListN.{length, set, get_or, take}
-use lib.Seq.{get_or-set_same, length-take-le}
-use Rattle.rules.specs.Program.{word}
-use Rattle.vectors.specs.Compared.{Words, Same, First}
+-- What a search for the first difference of two lists gives.
+use Rattle.std.proofs.Common.{◌≡◌, ℕ, ◌<◌, ◌≤◌, List, Bool, true, false, Option, None, Some, length, get_or, min, arith}
+use Rattle.std.specs.Option.{MatchOption, unwrap_or}
+use Rattle.std.specs.List.{AllWithin, HoldsAt, zip}
+use Rattle.std.proofs.lemmas.Slice.Zip.{length-zip, get_or-zip}
+use Rattle.vectors.specs.Compared.{Same, First}
 
--- no words are read yet; one more is stored
-pub read_none : (bs ws : List ℕ) → Words bs ws 0
-unfolding Words
-read_none bs ws = below_none _
+module _ {A : Type 0} (eq : A → A → Bool) (xs ys : List A) where
+  -- the pair at a place below both ends
+  pair : (b : Bool) (i : ℕ) (d : A) → i < length xs → i < length ys → eq (get_or (zip xs ys) i (d, d)).0 (get_or (zip xs ys) i (d, d)).1 ≡ b → eq (get_or xs i d) (get_or ys i d) ≡ b
+  pair b i d h j e = rw (get_or-zip xs ys i (d, d) h j) at e
 
-pub read_more : (bs ws : List ℕ) {i x : ℕ} → i < length ws → Words bs ws i → x ≡ word bs i → Words bs (set ws i x) (i + 1)
-unfolding Words
-read_more bs ws {i} {x} h w e = below_more _ i (λ k l. read_below ℕ ws i k x 0 (word bs k) l (w k l)) (get_or-set_same ws i x 0 h ∙ e)
+  before : (k : ℕ) → k ≤ length xs → k ≤ length ys → AllWithin (λ p. eq p.0 p.1 ≡ true) (zip xs ys) 0 k → Same eq xs ys k
+  unfolding Same
+  before k h j s = λ i d l. pair true i d (omega arith) (omega arith) (s i (d, d) (omega arith) l)
 
-pub read_all : (bs ws : List ℕ) {i : ℕ} → length ws ≤ i → Words bs ws i → Words bs ws (length ws)
-unfolding Words
-read_all bs ws h w k l = w k (omega arith)
-
--- nothing is compared yet; one more is the same
-pub same_none : (xs ys : List ℕ) → Same xs ys 0
-unfolding Same
-same_none xs ys = below_none _
-
-pub same_more : (xs ys : List ℕ) (k : ℕ) → Same xs ys k → get_or xs k 0 ≡ get_or ys k 0 → Same xs ys (k + 1)
-unfolding Same
-same_more xs ys k s e = below_more _ k s e
-
--- a comparison ends at a difference, or where one of the two ends
-pub first_difference : (xs ys : List ℕ) {k : ℕ} → k < length xs → k < length ys → Same xs ys k → (get_or xs k 0 ≡ get_or ys k 0 → ⊥) → First xs ys k
-first_difference xs ys h j s d = record { within = omega arith; within_too = omega arith; before = s; there = λ _ _ e. d e }
-
-pub first_end : (xs ys : List ℕ) {k : ℕ} → k ≤ length xs → k ≤ length ys → Same xs ys k → (k < length xs → k < length ys → ⊥) → First xs ys k
-first_end xs ys h j s n = record { within = h; within_too = j; before = s; there = λ p q _. n p q }
-
--- a part of so many words or bytes is as long
-pub part_long : (n : ℕ) (xs : List ℕ) → n ≤ length xs → n ≡ length (take n xs)
-part_long n xs h = sym (length-take-le n xs h)
+  -- no pair differs, or one is the first that does
+  pub first_pair : (r : Option ℕ) → MatchOption r (AllWithin (λ p. eq p.0 p.1 ≡ true) (zip xs ys) 0 (length (zip xs ys))) (λ i. (i < length (zip xs ys)) × HoldsAt (λ p. eq p.0 p.1 ≡ false) (zip xs ys) i × AllWithin (λ p. eq p.0 p.1 ≡ true) (zip xs ys) 0 i) → First eq xs ys (unwrap_or r (min (length xs) (length ys)))
+  first_pair None h = let e = length-zip xs ys in
+      record { within = omega arith; within_too = omega arith; before = before _ (omega arith) (omega arith) (rw (← e) h); there = λ d p q. absurd (omega arith) }
+  first_pair (Some i) h = let e = length-zip xs ys in let l = h.0 in
+      record { within = omega arith; within_too = omega arith; before = before i (omega arith) (omega arith) h.2; there = λ d p q. pair false i d p q (h.1 (d, d)) }

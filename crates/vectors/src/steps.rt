@@ -1,74 +1,53 @@
 // Single steps: how many words the image has, the image, the step, the number, the value, the image afterwards.
-use super::read::ROOM;
-use super::{Outcome, read, tell};
-use image::layout::wide;
+use super::Case;
+use super::read::{ROOM, Source, Stop};
+use super::tell::Line;
 use std::io;
 use std::io::Read;
 
-// Compares the number, the value and every word after a step.
-fn compared(
-    rt: &impl Print,
-    name: &[u8],
-    i: usize,
-    step: &[u32; 7],
-    image: &mut [u32],
-    after: &[u32],
-) -> io::Result<Outcome> {
-    let reply = machine::step(image, step[0], step[1], step[2], step[3], step[4]);
-    let a = tell::number(
-        rt,
-        false,
-        name,
-        i,
-        b"number",
-        wide(rules::number(reply)),
-        wide(step[5]),
-    )?;
-    let b = tell::number(
-        rt,
-        a,
-        name,
-        i,
-        b"value",
-        wide(rules::value(reply)),
-        wide(step[6]),
-    )?;
-    let c = tell::words(rt, b, name, i, image, after)?;
-    tell::end(rt, c)
+#[derive(Drop)]
+pub struct SingleStep {
+    image: Vec<u32>,
+    thread: u32,
+    op: u32,
+    a: u32,
+    b: u32,
+    c: u32,
+    number: u32,
+    value: u32,
+    after: Vec<u32>,
 }
 
-// A case whose image and image afterwards have room.
-fn on(
-    rt: &impl Print,
-    file: &mut impl Read,
-    name: &[u8],
-    i: usize,
-    image: &mut [u32],
-    after: &mut [u32],
-) -> io::Result<Outcome> {
-    let mut step = [0u32; 7];
-    if !read::words(file, image)? {
-        return Ok(Outcome::Cut);
-    }
-    if !read::words(file, &mut step)? {
-        return Ok(Outcome::Cut);
-    }
-    if !read::words(file, after)? {
-        return Ok(Outcome::Cut);
-    }
-    compared(rt, name, i, &step, image, after)
-}
+impl Case for SingleStep {
+    const FILE: &'static str = "steps.words";
 
-pub fn case(rt: &impl Print, file: &mut impl Read, name: &[u8], i: usize) -> io::Result<Outcome> {
-    let mut head = [0u32; 1];
-    if !read::words(file, &mut head)? {
-        return Ok(Outcome::Cut);
+    fn read<F: Read>(source: &mut Source<F>) -> Result<Self, Stop> {
+        let n = source.length(ROOM)?;
+        Ok(SingleStep {
+            image: source.words(n)?,
+            thread: source.word()?,
+            op: source.word()?,
+            a: source.word()?,
+            b: source.word()?,
+            c: source.word()?,
+            number: source.word()?,
+            value: source.word()?,
+            after: source.words(n)?,
+        })
     }
-    let n = wide(head[0]);
-    if ROOM < n {
-        return Ok(Outcome::TooLarge);
+
+    // The number, the value and every word after the step.
+    fn compare<R: Print>(mut self, line: &mut Line<'_, R>) -> io::Result<()> {
+        let reply = machine::step(
+            &mut self.image,
+            self.thread,
+            self.op,
+            self.a,
+            self.b,
+            self.c,
+        );
+        line.number("number", rules::number(reply), self.number)?;
+        line.number("value", rules::value(reply), self.value)?;
+        line.items("word", &self.image, &self.after)
     }
-    let mut image = read::blank();
-    let mut after = read::blank();
-    on(rt, file, name, i, &mut image[..n], &mut after[..n])
 }

@@ -12,6 +12,13 @@ fn set_up(words: &mut [u32], settings: [u32; 6]) -> u32 {
     image::set_up(words, threads, slots, cells, records, threshold, start)
 }
 
+// Number and value of a step: thread, operation, a, b, c.
+fn step(image: &mut [u32], five: [u32; 5]) -> (u32, u32) {
+    let [thread, op, a, b, c] = five;
+    let reply = machine::step(image, thread, op, a, b, c);
+    (rules::number(reply), rules::value(reply))
+}
+
 fn say(rt: &impl Print, name: &str, passed: bool) -> io::Result<()> {
     let outcome = if passed { "passed" } else { "FAILED" };
     println!(rt; "{name}: {outcome}")

@@ -3,7 +3,7 @@
 ghost use Rattle.std.specs.Prelude.{◌≡◌, ◌≤◌, length, get_or, eqb};
 ghost use Rattle.rules.specs.Tests.{all};
 
-use super::set_up;
+use super::{set_up, step};
 
 // Whether each word is 7.
 fn untouched(words: &[u32]) -> bool
@@ -31,6 +31,5 @@ pub fn one_too_few() -> bool {
 }
 
 pub fn empty_image() -> bool {
-    let reply = machine::step(&mut [], 0, 0, 0, 0, 0);
-    rules::number(reply) == 1 && rules::value(reply) == 0 && machine::retired_number(&[], 0) == 1
+    step(&mut [], [0; 5]) == (1, 0) && machine::retired_number(&[], 0) == 1
 }

@@ -1,7 +1,7 @@
 // Steps one after another from a set-up: a row has the step's five words, and the number and the value that it must give.
 ghost use Rattle.std.specs.Prelude.{◌≤◌};
 
-use super::set_up;
+use super::{set_up, step};
 
 // The steps of "F=2": an advance is refused after the first retire, and taken after the second.
 const SECOND_RETIRE: [[u32; 7]; 6] = [
@@ -43,8 +43,7 @@ const PRINTED: [[u32; 7]; 23] = [
 // Whether a row's step gives the number and the value that stand at its end.
 fn is_given(image: &mut [u32], row: &[u32; 7]) -> bool {
     let [thread, op, a, b, c, number, value] = *row;
-    let reply = machine::step(image, thread, op, a, b, c);
-    rules::number(reply) == number && rules::value(reply) == value
+    step(image, [thread, op, a, b, c]) == (number, value)
 }
 
 // Whether each row's step, one after another, gives what the row says.

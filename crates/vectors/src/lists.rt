@@ -1,6 +1,6 @@
 // List questions: how many words the image has, the image, the thread, the number, how many entries are handed back, the entries.
 use super::Case;
-use super::read::{ROOM, Source, Stop};
+use super::read::{ROOM, Source, Stop, length};
 use super::tell::Line;
 use std::io;
 use std::io::Read;
@@ -17,11 +17,11 @@ impl Case for Question {
     const FILE: &'static str = "lists.words";
 
     fn read<F: Read>(source: &mut Source<F>) -> Result<Self, Stop> {
-        let n = source.length(ROOM)?;
+        let n = length(source.word()?, ROOM)?;
         let image = source.words(n)?;
         let thread = source.word()?;
         let number = source.word()?;
-        let n = source.length(ROOM)?;
+        let n = length(source.word()?, ROOM)?;
         let entries = source.words(n)?;
         Ok(Question {
             image,

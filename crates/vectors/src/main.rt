@@ -28,72 +28,68 @@ trait Case: Sized + Drop {
     fn compare<R: Print>(self, line: &mut Line<'_, R>) -> io::Result<()>;
 }
 
-// Case i: whether it differs.
-fn is_different<C: Case, R: Print, F: Read>(
-    rt: &R,
-    source: &mut Source<F>,
-    name: &str,
-    i: usize,
-) -> Result<bool, Stop> {
-    let case = C::read(source)?;
-    let mut line = Line::new(rt, name, i);
-    case.compare(&mut line)?;
-    Ok(line.end()?)
+// A file whose cases are run, and what its lines are printed to.
+#[derive(Drop)]
+struct Run<'a, R, F> {
+    rt: &'a R,
+    name: &'a str,
+    source: Source<F>,
 }
 
-// The n cases of a file: how many differ, or the case at which they stop, and why.
-fn differing<C: Case, R: Print, F: Read>(
-    rt: &R,
-    source: &mut Source<F>,
-    name: &str,
-    n: usize,
-) -> Result<usize, (usize, Stop)> {
-    let mut differ = 0;
-    for i in 0..n {
-        if is_different::<C, R, F>(rt, source, name, i).map_err(|stop| (i, stop))? {
-            differ += 1;
-        }
+impl<R: Print, F: Read> Run<'_, R, F> {
+    // Case i: whether it differs.
+    fn is_different<C: Case>(&mut self, i: usize) -> Result<bool, Stop> {
+        let case = C::read(&mut self.source)?;
+        let mut line = Line::new(self.rt, self.name, i);
+        case.compare(&mut line)?;
+        Ok(line.end()?)
     }
-    Ok(differ)
-}
 
-// The n cases of a file, and its last line.
-fn cases<C: Case, R: Print, F: Read>(
-    rt: &R,
-    source: &mut Source<F>,
-    name: &str,
-    n: usize,
-) -> io::Result<()> {
-    match differing::<C, R, F>(rt, source, name, n) {
-        Ok(differ) => {
-            if source.is_end()? {
-                println!(rt; "{name}: {n} cases, {differ} differ")
-            } else {
-                println!(rt; "{name}: longer than its counts say")
+    // The first n cases: how many differ, or the case at which they stop, and why.
+    fn differing<C: Case>(&mut self, n: usize) -> Result<usize, (usize, Stop)> {
+        let mut differ = 0;
+        for i in 0..n {
+            if self.is_different::<C>(i).map_err(|stop| (i, stop))? {
+                differ += 1;
             }
         }
-        Err((i, Stop::Cut)) => println!(rt; "{name}: cut short in case {i}"),
-        Err((i, Stop::TooLarge)) => println!(rt; "{name} case {i}: too large"),
-        Err((_, Stop::Io(e))) => Err(e),
+        Ok(differ)
     }
-}
 
-// An open file.
-fn opened<C: Case, R: Print, F: Read>(
-    rt: &R,
-    source: &mut Source<F>,
-    name: &str,
-) -> io::Result<()> {
-    match source.word() {
-        Ok(n) => cases::<C, R, F>(rt, source, name, n as usize),
-        Err(Stop::Io(e)) => Err(e),
-        Err(_) => println!(rt; "{name}: cut short in its count"),
+    // The first n cases, and the file's last line.
+    fn cases<C: Case>(&mut self, n: usize) -> io::Result<()> {
+        let rt = self.rt;
+        let name = self.name;
+        match self.differing::<C>(n) {
+            Ok(differ) => {
+                if self.source.is_end()? {
+                    println!(rt; "{name}: {n} cases, {differ} differ")
+                } else {
+                    println!(rt; "{name}: longer than its counts say")
+                }
+            }
+            Err((i, Stop::Cut)) => println!(rt; "{name}: cut short in case {i}"),
+            Err((i, Stop::TooLarge)) => println!(rt; "{name} case {i}: too large"),
+            Err((_, Stop::Io(e))) => Err(e),
+        }
+    }
+
+    // The whole file: how many cases it has, and the cases.
+    fn whole<C: Case>(&mut self) -> io::Result<()> {
+        match self.source.word() {
+            Ok(n) => self.cases::<C>(n as usize),
+            Err(Stop::Io(e)) => Err(e),
+            Err(_) => println!(self.rt; "{}: cut short in its count", self.name),
+        }
     }
 }
 
 fn file<C: Case, R: Files + Print + AllocGlobal>(rt: &R, name: &str) -> io::Result<()> {
     match fs::open(rt, name) {
-        Ok(file) => opened::<C, R, R::File>(rt, &mut Source::new(rt.alloc(), file), name),
+        Ok(file) => {
+            let source = Source::new(rt.alloc(), file);
+            Run { rt, name, source }.whole::<C>()
+        }
         Err(_) => println!(rt; "{name}: missing"),
     }
 }

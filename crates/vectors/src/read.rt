@@ -1,14 +1,11 @@
 // What is read of a file, as much at a time as a case needs.
-ghost use Rattle.std.specs.Prelude.{◌≡◌, ◌*◌, ◌≤◌, length, IfOk};
+ghost use Rattle.std.specs.Prelude.{◌≡◌, ◌*◌, ◌<◌, ◌≤◌, length, IfOk, OnErr};
 ghost use Rattle.vectors.specs.Compared.{Words};
 
 use replay::schedule::word;
 use std::alloc::{AllocError, Global};
 use std::io;
 use std::io::{ErrorKind, Read};
-
-// The most words that a case's image has room for.
-pub const ROOM: u32 = 8300;
 
 // Why no further case is run: the file can't be read, or it ends, or this case has no room.
 #[derive(Debug, Drop)]
@@ -30,6 +27,21 @@ impl From<io::Error> for Stop {
 impl From<AllocError> for Stop {
     fn from(e: AllocError) -> Stop {
         Stop::Io(io::Error::from(e))
+    }
+}
+
+// The most words that a case's image has room for.
+pub const ROOM: u32 = 8300;
+
+// A length that stands in the file, if it is no more than there is room for.
+pub fn length(n: u32, most: u32) -> Result<usize, Stop>
+    ensures ok { IfOk result (λ k. (k ≡ n) × (k ≤ most)) }
+    ensures err { OnErr result (most < n) }
+{
+    if n <= most {
+        Ok(n as usize)
+    } else {
+        Err(Stop::TooLarge)
     }
 }
 
@@ -71,10 +83,9 @@ impl<F: Read> Source<F> {
     }
 
     pub fn words(&mut self, n: usize) -> Result<Vec<u32>, Stop>
-        requires { n ≤ ROOM }
         ensures { IfOk result (λ xs. length xs.items ≡ n) }
     {
-        let bytes = self.bytes(n * 4)?;
+        let bytes = self.bytes(n.checked_mul(4).ok_or(Stop::TooLarge)?)?;
         let mut words = self.filled(0, n)?;
         from_bytes(&bytes, &mut words);
         Ok(words)
@@ -84,18 +95,6 @@ impl<F: Read> Source<F> {
         let mut bytes = [0; 4];
         self.file.read_exact(&mut bytes)?;
         Ok(u32::from_le_bytes(bytes))
-    }
-
-    // A length that stands in the file, if it is no more than there is room for.
-    pub fn length(&mut self, most: u32) -> Result<usize, Stop>
-        ensures { IfOk result (λ n. n ≤ most) }
-    {
-        let n = self.word()?;
-        if n <= most {
-            Ok(n as usize)
-        } else {
-            Err(Stop::TooLarge)
-        }
     }
 
     // Whether nothing is left.

@@ -1,6 +1,6 @@
 // Schedules: how many bytes go in and come out, the input, the output.
 use super::Case;
-use super::read::{Source, Stop};
+use super::read::{Source, Stop, length};
 use super::tell::Line;
 use replay::Written;
 use std::io;
@@ -20,8 +20,10 @@ impl Case for Schedule {
     const FILE: &'static str = "schedules.bundle";
 
     fn read<F: Read>(source: &mut Source<F>) -> Result<Self, Stop> {
-        let n = source.length(MOST)?;
-        let m = source.length(MOST)?;
+        let n = source.word()?;
+        let m = source.word()?;
+        let n = length(n, MOST)?;
+        let m = length(m, MOST)?;
         Ok(Schedule {
             input: source.bytes(n)?,
             expected: source.bytes(m)?,

@@ -1,6 +1,6 @@
 // Set-ups: how many words the buffer has, the six settings, the number, and where that is 0 the image.
 use super::Case;
-use super::read::{ROOM, Source, Stop};
+use super::read::{ROOM, Source, Stop, length};
 use super::tell::Line;
 use std::io;
 use std::io::Read;
@@ -57,9 +57,10 @@ impl Case for SetUp {
     const FILE: &'static str = "setups.words";
 
     fn read<F: Read>(source: &mut Source<F>) -> Result<Self, Stop> {
-        let n = source.length(ROOM)?;
+        let n = source.word()?;
         let settings = read_settings(source)?;
         let number = source.word()?;
+        let n = length(n, ROOM)?;
         let given = source.filled(7, n)?;
         let expected = if number == 0 {
             source.words(n)?

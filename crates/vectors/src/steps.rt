@@ -1,35 +1,52 @@
 // Single steps: how many words the image has, the image, the step, the number, the value, the image afterwards.
 use super::Case;
-use super::read::{ROOM, Source, Stop};
+use super::read::{ROOM, Source, Stop, length};
 use super::tell::Line;
 use std::io;
 use std::io::Read;
 
-#[derive(Drop)]
-pub struct SingleStep {
-    image: Vec<u32>,
+#[derive(Clone, Copy)]
+struct Step {
     thread: u32,
     op: u32,
     a: u32,
     b: u32,
     c: u32,
+}
+
+#[derive(Drop)]
+pub struct SingleStep {
+    image: Vec<u32>,
+    step: Step,
     number: u32,
     value: u32,
     after: Vec<u32>,
+}
+
+fn read_step<F: Read>(source: &mut Source<F>) -> Result<Step, Stop> {
+    Ok(Step {
+        thread: source.word()?,
+        op: source.word()?,
+        a: source.word()?,
+        b: source.word()?,
+        c: source.word()?,
+    })
+}
+
+// Number and value of a step, once it is taken.
+fn reply(image: &mut [u32], s: Step) -> (u32, u32) {
+    let reply = machine::step(image, s.thread, s.op, s.a, s.b, s.c);
+    (rules::number(reply), rules::value(reply))
 }
 
 impl Case for SingleStep {
     const FILE: &'static str = "steps.words";
 
     fn read<F: Read>(source: &mut Source<F>) -> Result<Self, Stop> {
-        let n = source.length(ROOM)?;
+        let n = length(source.word()?, ROOM)?;
         Ok(SingleStep {
             image: source.words(n)?,
-            thread: source.word()?,
-            op: source.word()?,
-            a: source.word()?,
-            b: source.word()?,
-            c: source.word()?,
+            step: read_step(source)?,
             number: source.word()?,
             value: source.word()?,
             after: source.words(n)?,
@@ -38,16 +55,9 @@ impl Case for SingleStep {
 
     // The number, the value and every word after the step.
     fn compare<R: Print>(mut self, line: &mut Line<'_, R>) -> io::Result<()> {
-        let reply = machine::step(
-            &mut self.image,
-            self.thread,
-            self.op,
-            self.a,
-            self.b,
-            self.c,
-        );
-        line.number("number", rules::number(reply), self.number)?;
-        line.number("value", rules::value(reply), self.value)?;
+        let (number, value) = reply(&mut self.image, self.step);
+        line.number("number", number, self.number)?;
+        line.number("value", value, self.value)?;
         line.items("word", &self.image, &self.after)
     }
 }

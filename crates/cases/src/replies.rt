@@ -4,7 +4,7 @@ ghost use Rattle.std.specs.Prelude.{◌≤◌};
 use super::{set_up, step};
 
 // The steps of "F=2": an advance is refused after the first retire, and taken after the second.
-const SECOND_RETIRE: [[u32; 7]; 6] = [
+const SECOND_RETIRE: &[[u32; 7]] = &[
     [0, 0, 0, 0, 0, 0, 1],
     [0, 0, 0, 0, 0, 0, 2],
     [0, 7, 1, 0, 0, 0, 1],
@@ -14,7 +14,7 @@ const SECOND_RETIRE: [[u32; 7]; 6] = [
 ];
 
 // The steps of the printed example.
-const PRINTED: [[u32; 7]; 23] = [
+const PRINTED: &[[u32; 7]] = &[
     [0, 0, 0, 0, 0, 0, 1],
     [0, 1, 0, 0, 1, 0, 1],
     [1, 2, 0, 0, 0, 0, 1],
@@ -60,9 +60,9 @@ fn pass<const WORDS: usize>(settings: [u32; 6], rows: &[[u32; 7]]) -> bool
 }
 
 pub fn second_retire() -> bool {
-    pass::<35>([1, 1, 1, 2, 2, 0], &SECOND_RETIRE)
+    pass::<35>([1, 1, 1, 2, 2, 0], SECOND_RETIRE)
 }
 
 pub fn printed() -> bool {
-    pass::<56>([2, 1, 1, 2, 1, 4294967295], &PRINTED)
+    pass::<56>([2, 1, 1, 2, 1, 4294967295], PRINTED)
 }

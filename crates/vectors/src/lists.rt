@@ -1,10 +1,11 @@
 // List questions: how many words the image has, the image, the thread, the number, how many entries are handed back, the entries.
 use super::Case;
-use super::read::{ROOM, Source, Stop, length};
+use super::read::{ROOM, Source, Stop, within};
 use super::tell::Line;
 use std::io;
 use std::io::Read;
 
+// A thread's list asked for, and the number and the entries that must be given.
 #[derive(Drop)]
 pub struct Question {
     image: Vec<u32>,
@@ -17,11 +18,11 @@ impl Case for Question {
     const FILE: &'static str = "lists.words";
 
     fn read<F: Read>(source: &mut Source<F>) -> Result<Self, Stop> {
-        let n = length(source.word()?, ROOM)?;
+        let n = within(source.word()?, ROOM)?;
         let image = source.words(n)?;
         let thread = source.word()?;
         let number = source.word()?;
-        let n = length(source.word()?, ROOM)?;
+        let n = within(source.word()?, ROOM)?;
         let entries = source.words(n)?;
         Ok(Question {
             image,

@@ -25,6 +25,7 @@ trait Case: Sized + Drop {
 
     fn read<F: Read>(source: &mut Source<F>) -> Result<Self, Stop>;
 
+    // Runs the case, and tells on its line what differs.
     fn compare<R: Print>(self, line: &mut Line<'_, R>) -> io::Result<()>;
 }
 
@@ -84,7 +85,8 @@ impl<R: Print, F: Read> Run<'_, R, F> {
     }
 }
 
-fn file<C: Case, R: Files + Print + AllocGlobal>(rt: &R, name: &str) -> io::Result<()> {
+// The file of that name.
+fn file<C: Case>(rt: &(impl Files + Print + AllocGlobal), name: &str) -> io::Result<()> {
     match fs::open(rt, name) {
         Ok(file) => {
             let source = Source::new(rt.alloc(), file);
@@ -95,17 +97,17 @@ fn file<C: Case, R: Files + Print + AllocGlobal>(rt: &R, name: &str) -> io::Resu
 }
 
 // The file that an argument names, or the usual one where there are fewer arguments.
-fn named<C: Case, R: Files + Print + AllocGlobal>(rt: &R, name: Option<String>) -> io::Result<()> {
+fn named<C: Case>(rt: &(impl Files + Print + AllocGlobal), name: Option<String>) -> io::Result<()> {
     match name {
-        Some(name) => file::<C, R>(rt, name.as_str()),
-        None => file::<C, R>(rt, C::FILE),
+        Some(name) => file::<C>(rt, name.as_str()),
+        None => file::<C>(rt, C::FILE),
     }
 }
 
 fn main(rt: HostRuntime) -> io::Result<()> {
     let mut names = env::args(&rt)?.skip(1);
-    named::<SingleStep, _>(&rt, names.next())?;
-    named::<SetUp, _>(&rt, names.next())?;
-    named::<Question, _>(&rt, names.next())?;
-    named::<Schedule, _>(&rt, names.next())
+    named::<SingleStep>(&rt, names.next())?;
+    named::<SetUp>(&rt, names.next())?;
+    named::<Question>(&rt, names.next())?;
+    named::<Schedule>(&rt, names.next())
 }

@@ -33,16 +33,15 @@ impl From<AllocError> for Stop {
 // The most words that a case's image has room for.
 pub const ROOM: u32 = 8300;
 
-// A length that stands in the file, if it is no more than there is room for.
-pub fn length(n: u32, most: u32) -> Result<usize, Stop>
+// How many words or bytes a file says come next, if that is no more than there is room for.
+pub fn within(n: u32, most: u32) -> Result<usize, Stop>
     ensures ok { IfOk result (λ k. (k ≡ n) × (k ≤ most)) }
     ensures err { OnErr result (most < n) }
 {
-    if n <= most {
-        Ok(n as usize)
-    } else {
-        Err(Stop::TooLarge)
+    if most < n {
+        return Err(Stop::TooLarge);
     }
+    Ok(n as usize)
 }
 
 // A file that is read, and the memory for what is read of it.
@@ -67,13 +66,14 @@ impl<F: Read> Source<F> {
         Source { alloc, file }
     }
 
-    // So many words or bytes, each of them the same.
+    // Memory for n words or bytes, each of them x at first.
     pub fn filled<T: Copy>(&self, x: T, n: usize) -> Result<Vec<T>, Stop>
         ensures { IfOk result (λ xs. length xs.items ≡ n) }
     {
         Ok(vec![in self.alloc; x; n]?)
     }
 
+    // The next n bytes.
     pub fn bytes(&mut self, n: usize) -> Result<Vec<u8>, Stop>
         ensures { IfOk result (λ xs. length xs.items ≡ n) }
     {
@@ -82,6 +82,7 @@ impl<F: Read> Source<F> {
         Ok(bytes)
     }
 
+    // The next n words.
     pub fn words(&mut self, n: usize) -> Result<Vec<u32>, Stop>
         ensures { IfOk result (λ xs. length xs.items ≡ n) }
     {
@@ -91,6 +92,7 @@ impl<F: Read> Source<F> {
         Ok(words)
     }
 
+    // The next word.
     pub fn word(&mut self) -> Result<u32, Stop> {
         let mut bytes = [0; 4];
         self.file.read_exact(&mut bytes)?;

@@ -1,6 +1,6 @@
 // Schedules: how many bytes go in and come out, the input, the output.
 use super::Case;
-use super::read::{Source, Stop, length};
+use super::read::{Source, Stop, within};
 use super::tell::Line;
 use replay::Written;
 use std::io;
@@ -9,6 +9,10 @@ use std::io::Read;
 // The most bytes that an input or an output may have, one less than there is room for.
 const MOST: u32 = 65535;
 
+// The bytes of the lent buffer.
+const ROOM: usize = 65536;
+
+// An input, the output that it must give, and the buffer that is lent for one.
 #[derive(Drop)]
 pub struct Schedule {
     input: Vec<u8>,
@@ -22,12 +26,12 @@ impl Case for Schedule {
     fn read<F: Read>(source: &mut Source<F>) -> Result<Self, Stop> {
         let n = source.word()?;
         let m = source.word()?;
-        let n = length(n, MOST)?;
-        let m = length(m, MOST)?;
+        let n = within(n, MOST)?;
+        let m = within(m, MOST)?;
         Ok(Schedule {
             input: source.bytes(n)?,
             expected: source.bytes(m)?,
-            given: source.filled(0, 65536)?,
+            given: source.filled(0, ROOM)?,
         })
     }
 

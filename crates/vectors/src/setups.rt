@@ -1,10 +1,11 @@
 // Set-ups: how many words the buffer has, the six settings, the number, and where that is 0 the image.
 use super::Case;
-use super::read::{ROOM, Source, Stop, length};
+use super::read::{ROOM, Source, Stop, within};
 use super::tell::Line;
 use std::io;
 use std::io::Read;
 
+// The six settings, as the file has them.
 #[derive(Clone, Copy)]
 struct Settings {
     threads: u32,
@@ -15,16 +16,15 @@ struct Settings {
     start: u32,
 }
 
+// Given and expected are as long. Both hold a pattern, which a refused set-up leaves as it is.
 #[derive(Drop)]
 pub struct SetUp {
     settings: Settings,
     number: u32,
-    // Both hold a pattern, which a refused set-up leaves as it is.
     given: Vec<u32>,
     expected: Vec<u32>,
 }
 
-// The six settings.
 fn read_settings<F: Read>(source: &mut Source<F>) -> Result<Settings, Stop> {
     Ok(Settings {
         threads: source.word()?,
@@ -49,6 +49,7 @@ fn set_up(words: &mut [u32], s: Settings) -> u32 {
     )
 }
 
+// The words that an image with these settings has.
 fn words_needed(s: Settings) -> usize {
     image::words_needed(s.threads, s.slots, s.cells, s.records, s.threshold, s.start)
 }
@@ -60,7 +61,7 @@ impl Case for SetUp {
         let n = source.word()?;
         let settings = read_settings(source)?;
         let number = source.word()?;
-        let n = length(n, ROOM)?;
+        let n = within(n, ROOM)?;
         let given = source.filled(7, n)?;
         let expected = if number == 0 {
             source.words(n)?

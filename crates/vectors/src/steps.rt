@@ -1,10 +1,11 @@
 // Single steps: how many words the image has, the image, the step, the number, the value, the image afterwards.
 use super::Case;
-use super::read::{ROOM, Source, Stop, length};
+use super::read::{ROOM, Source, Stop, within};
 use super::tell::Line;
 use std::io;
 use std::io::Read;
 
+// A step's five words.
 #[derive(Clone, Copy)]
 struct Step {
     thread: u32,
@@ -14,6 +15,7 @@ struct Step {
     c: u32,
 }
 
+// A step on an image, what it must give, and the image as it must be afterwards.
 #[derive(Drop)]
 pub struct SingleStep {
     image: Vec<u32>,
@@ -43,7 +45,7 @@ impl Case for SingleStep {
     const FILE: &'static str = "steps.words";
 
     fn read<F: Read>(source: &mut Source<F>) -> Result<Self, Stop> {
-        let n = length(source.word()?, ROOM)?;
+        let n = within(source.word()?, ROOM)?;
         Ok(SingleStep {
             image: source.words(n)?,
             step: read_step(source)?,

@@ -52,6 +52,7 @@ pub struct Source<F> {
 }
 
 // Words from bytes, the lowest byte first.
+#[tactic(auto, unfolding(crate::specs::Compared::Words))]
 fn from_bytes(bytes: &[u8], out: &mut [u32])
     requires { length out.old * 4 ≤ length bytes.now }
     ensures { (length out.new ≡ length out.old) × Words bytes.now out.new (length out.new) }

@@ -6,13 +6,13 @@ mod replies;
 
 use std::io;
 
-// The number of a set-up with these settings: threads, slots, cells, records, threshold, start.
+// Tries a set-up, and gives its number, by which document 01 names replies. The settings: threads, slots, cells, records, threshold, start.
 fn set_up(words: &mut [u32], settings: [u32; 6]) -> u32 {
     let [threads, slots, cells, records, threshold, start] = settings;
     image::set_up(words, threads, slots, cells, records, threshold, start)
 }
 
-// Number and value of a step: thread, operation, a, b, c.
+// Takes a step, and gives number and value of its reply. The five words: thread, operation, a, b, c.
 fn step(image: &mut [u32], five: [u32; 5]) -> (u32, u32) {
     let [thread, op, a, b, c] = five;
     let reply = machine::step(image, thread, op, a, b, c);

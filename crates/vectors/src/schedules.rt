@@ -10,7 +10,7 @@ use std::io::Read;
 const MOST: u32 = 65535;
 
 // The bytes of the lent buffer.
-const ROOM: usize = 65536;
+const LENT: usize = 65536;
 
 // An input, the output that it must give, and the buffer that is lent for one.
 #[derive(Drop)]
@@ -31,7 +31,7 @@ impl Case for Schedule {
         Ok(Schedule {
             input: source.bytes(n)?,
             expected: source.bytes(m)?,
-            given: source.filled(0, ROOM)?,
+            given: source.filled(0, LENT)?,
         })
     }
 

@@ -36,7 +36,7 @@ fn read_settings<F: Read>(source: &mut Source<F>) -> Result<Settings, Stop> {
     })
 }
 
-// The number of a set-up, once it is tried on a buffer.
+// Tries a set-up: its number, as the file has it.
 fn set_up(words: &mut [u32], s: Settings) -> u32 {
     image::set_up(
         words,

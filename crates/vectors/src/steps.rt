@@ -35,7 +35,7 @@ fn read_step<F: Read>(source: &mut Source<F>) -> Result<Step, Stop> {
     })
 }
 
-// Number and value of a step, once it is taken.
+// Takes a step: number and value of its reply, as the file has them.
 fn reply(image: &mut [u32], s: Step) -> (u32, u32) {
     let reply = machine::step(image, s.thread, s.op, s.a, s.b, s.c);
     (rules::number(reply), rules::value(reply))

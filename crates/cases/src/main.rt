@@ -4,7 +4,23 @@
 mod refusals;
 mod replies;
 
+use rules::{Settings, Step};
 use std::io;
+
+// Tries a set-up, and gives its number, by which document 01 names replies. The settings: threads, slots, cells, records, threshold, start.
+fn set_up(words: &mut [u32], settings: [u32; 6]) -> u32 {
+    match image::set_up(words, Settings::from(settings)) {
+        Ok(()) => 0,
+        Err(why) => u32::from(why),
+    }
+}
+
+// Takes a step, and gives number and value of its reply. The five words: thread, operation, a, b, c.
+fn step(image: &mut [u32], five: [u32; 5]) -> (u32, u32) {
+    let [thread, op, a, b, c] = five;
+    let reply = machine::step(image, Step { thread, op, a, b, c });
+    (rules::number(reply), rules::value(reply))
+}
 
 fn say(rt: &impl Print, name: &str, passed: bool) -> io::Result<()> {
     let outcome = if passed { "passed" } else { "FAILED" };

@@ -1,7 +1,10 @@
-// Steps one after another from a set-up, each row with the number and the value that it must give.
+// Steps one after another from a set-up: a row has the step's five words, and the number and the value that it must give.
+ghost use Rattle.std.specs.Prelude.{◌≤◌};
+
+use super::{set_up, step};
 
 // The steps of "F=2": an advance is refused after the first retire, and taken after the second.
-const SECOND_RETIRE: [[u32; 7]; 6] = [
+const SECOND_RETIRE: &[[u32; 7]] = &[
     [0, 0, 0, 0, 0, 0, 1],
     [0, 0, 0, 0, 0, 0, 2],
     [0, 7, 1, 0, 0, 0, 1],
@@ -11,7 +14,7 @@ const SECOND_RETIRE: [[u32; 7]; 6] = [
 ];
 
 // The steps of the printed example.
-const PRINTED: [[u32; 7]; 23] = [
+const PRINTED: &[[u32; 7]] = &[
     [0, 0, 0, 0, 0, 0, 1],
     [0, 1, 0, 0, 1, 0, 1],
     [1, 2, 0, 0, 0, 0, 1],
@@ -37,29 +40,29 @@ const PRINTED: [[u32; 7]; 23] = [
     [1, 5, 0, 0, 0, 11, 0],
 ];
 
-// Whether a row's step gives what the row says.
+// Whether a row's step gives the number and the value that stand at its end.
 fn is_given(image: &mut [u32], row: &[u32; 7]) -> bool {
-    let reply = machine::step(image, row[0], row[1], row[2], row[3], row[4]);
-    (rules::number(reply) == row[5]) & (rules::value(reply) == row[6])
+    let [thread, op, a, b, c, number, value] = *row;
+    step(image, [thread, op, a, b, c]) == (number, value)
 }
 
 // Whether each row's step, one after another, gives what the row says.
 fn are_given(image: &mut [u32], rows: &[[u32; 7]]) -> bool {
-    let mut ok = true;
-    for row in rows {
-        ok = ok & is_given(image, row);
-    }
-    ok
+    rows.iter().all(|row| is_given(image, row))
+}
+
+// Whether an image of so many words is set up, and the rows' steps on it give what the rows say.
+fn pass<const WORDS: usize>(settings: [u32; 6], rows: &[[u32; 7]]) -> bool
+    requires { WORDS ≤ 8209 }
+{
+    let mut image = [0; WORDS];
+    set_up(&mut image, settings) == 0 && are_given(&mut image, rows)
 }
 
 pub fn second_retire() -> bool {
-    let mut image = [0u32; 35];
-    let rows = SECOND_RETIRE;
-    (image::set_up(&mut image, 1, 1, 1, 2, 2, 0) == 0) & are_given(&mut image, &rows)
+    pass::<35>([1, 1, 1, 2, 2, 0], SECOND_RETIRE)
 }
 
 pub fn printed() -> bool {
-    let mut image = [0u32; 56];
-    let rows = PRINTED;
-    (image::set_up(&mut image, 2, 1, 1, 2, 1, 4294967295) == 0) & are_given(&mut image, &rows)
+    pass::<56>([2, 1, 1, 2, 1, 4294967295], PRINTED)
 }

@@ -1,80 +1,46 @@
 // List questions: how many words the image has, the image, the thread, the number, how many entries are handed back, the entries.
-use super::read::ROOM;
-use super::{Outcome, read, tell};
-use image::layout::wide;
+use super::Case;
+use super::read::{ROOM, Source, Stop, within};
+use super::tell::Line;
 use std::io;
 use std::io::Read;
 
-// Compares the number, how many entries are handed back, and each of them.
-fn answered(
-    rt: &impl Print,
-    file: &mut impl Read,
-    name: &[u8],
-    i: usize,
-    image: &[u32],
+// A thread's list asked for, and the number and the entries that must be given.
+#[derive(Drop)]
+pub struct Question {
+    image: Vec<u32>,
     thread: u32,
     number: u32,
-    entries: &mut [u32],
-) -> io::Result<Outcome> {
-    if !read::words(file, entries)? {
-        return Ok(Outcome::Cut);
-    }
-    let a = tell::number(
-        rt,
-        false,
-        name,
-        i,
-        b"number",
-        wide(machine::retired_number(image, thread)),
-        wide(number),
-    )?;
-    let part = machine::retired(image, thread);
-    let b = tell::number(rt, a, name, i, b"length", part.len(), entries.len())?;
-    let c = tell::words(rt, b, name, i, part, entries)?;
-    tell::end(rt, c)
+    entries: Vec<u32>,
 }
 
-// A case whose image has room.
-fn on(
-    rt: &impl Print,
-    file: &mut impl Read,
-    name: &[u8],
-    i: usize,
-    image: &mut [u32],
-) -> io::Result<Outcome> {
-    let mut asked = [0u32; 3];
-    if !read::words(file, image)? {
-        return Ok(Outcome::Cut);
-    }
-    if !read::words(file, &mut asked)? {
-        return Ok(Outcome::Cut);
-    }
-    let n = wide(asked[2]);
-    if ROOM < n {
-        return Ok(Outcome::TooLarge);
-    }
-    let mut entries = read::blank();
-    answered(
-        rt,
-        file,
-        name,
-        i,
-        image,
-        asked[0],
-        asked[1],
-        &mut entries[..n],
-    )
-}
+impl Case for Question {
+    const FILE: &'static str = "lists.words";
 
-pub fn case(rt: &impl Print, file: &mut impl Read, name: &[u8], i: usize) -> io::Result<Outcome> {
-    let mut head = [0u32; 1];
-    if !read::words(file, &mut head)? {
-        return Ok(Outcome::Cut);
+    fn read<F: Read>(source: &mut Source<F>) -> Result<Self, Stop> {
+        let n = within(source.word()?, ROOM)?;
+        let image = source.words(n)?;
+        let thread = source.word()?;
+        let number = source.word()?;
+        let n = within(source.word()?, ROOM)?;
+        let entries = source.words(n)?;
+        Ok(Question {
+            image,
+            thread,
+            number,
+            entries,
+        })
     }
-    let n = wide(head[0]);
-    if ROOM < n {
-        return Ok(Outcome::TooLarge);
+
+    // The number, how many entries are handed back, and each of them.
+    fn compare<R: Print>(self, line: &mut Line<'_, R>) -> io::Result<()> {
+        let part = machine::retired(&self.image, self.thread);
+        line.number(
+            "number",
+            machine::retired_number(&self.image, self.thread),
+            self.number,
+        )?;
+        line.number("length", part.len(), self.entries.len())?;
+        line.items("word", part, &self.entries)
     }
-    let mut image = read::blank();
-    on(rt, file, name, i, &mut image[..n])
 }

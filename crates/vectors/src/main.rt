@@ -3,143 +3,111 @@
 
 mod lists;
 mod read;
-mod say;
 mod schedules;
 mod setups;
 mod steps;
 mod tell;
 
-use image::layout::wide;
+use lists::Question;
+use read::{Source, Stop};
+use schedules::Schedule;
+use setups::SetUp;
 use std::io::Read;
 use std::rt::Files;
 use std::{env, fs, io};
+use steps::SingleStep;
+use tell::Line;
 
-// What a file holds.
-#[derive(Clone, Copy)]
-enum Kind {
-    Steps,
-    SetUps,
-    Lists,
-    Schedules,
+// A case of a file: how it is read, and how it is run and compared.
+trait Case: Sized + Drop {
+    // The file where no argument names one.
+    const FILE: &'static str;
+
+    fn read<F: Read>(source: &mut Source<F>) -> Result<Self, Stop>;
+
+    // Runs the case, and tells on its line what differs.
+    fn compare<R: Print>(self, line: &mut Line<'_, R>) -> io::Result<()>;
 }
 
-// How a case ends: it is as expected, or differs, or the file ends in it, or it has no room.
-#[derive(Clone, Copy)]
-enum Outcome {
-    Same,
-    Differs,
-    Cut,
-    TooLarge,
+// A file whose cases are run, and what its lines are printed to.
+#[derive(Drop)]
+struct Run<'a, R, F> {
+    rt: &'a R,
+    name: &'a str,
+    source: Source<F>,
 }
 
-// How a file's cases end: all were run, and so many differ; or at this case the file ends, or this one has no room.
-#[derive(Clone, Copy)]
-enum Outcomes {
-    All(usize),
-    Cut(usize),
-    TooLarge(usize),
-}
-
-// Case i of a file.
-fn case(
-    rt: &impl Print,
-    kind: Kind,
-    file: &mut impl Read,
-    name: &[u8],
-    i: usize,
-) -> io::Result<Outcome> {
-    match kind {
-        Kind::Steps => steps::case(rt, file, name, i),
-        Kind::SetUps => setups::case(rt, file, name, i),
-        Kind::Lists => lists::case(rt, file, name, i),
-        Kind::Schedules => schedules::case(rt, file, name, i),
+impl<R: Print, F: Read> Run<'_, R, F> {
+    // Case i: whether it differs.
+    fn is_different<C: Case>(&mut self, i: usize) -> Result<bool, Stop> {
+        let case = C::read(&mut self.source)?;
+        let mut line = Line::new(self.rt, self.name, i);
+        case.compare(&mut line)?;
+        Ok(line.end()?)
     }
-}
 
-// The n cases of a file.
-fn cases(
-    rt: &impl Print,
-    kind: Kind,
-    file: &mut impl Read,
-    name: &[u8],
-    n: usize,
-) -> io::Result<Outcomes> {
-    let mut differ = 0;
-    for i in 0..n {
-        match case(rt, kind, file, name, i)? {
-            Outcome::Same => {}
-            Outcome::Differs => {
+    // The first n cases: how many differ, or the case at which they stop, and why.
+    fn differing<C: Case>(&mut self, n: usize) -> Result<usize, (usize, Stop)> {
+        let mut differ = 0;
+        for i in 0..n {
+            if self.is_different::<C>(i).map_err(|stop| (i, stop))? {
                 differ += 1;
             }
-            Outcome::Cut => {
-                return Ok(Outcomes::Cut(i));
+        }
+        Ok(differ)
+    }
+
+    // The first n cases, and the file's last line.
+    fn cases<C: Case>(&mut self, n: usize) -> io::Result<()> {
+        let rt = self.rt;
+        let name = self.name;
+        match self.differing::<C>(n) {
+            Ok(differ) => {
+                if self.source.is_end()? {
+                    println!(rt; "{name}: {n} cases, {differ} differ")
+                } else {
+                    println!(rt; "{name}: longer than its counts say")
+                }
             }
-            Outcome::TooLarge => {
-                return Ok(Outcomes::TooLarge(i));
-            }
+            Err((i, Stop::Cut)) => println!(rt; "{name}: cut short in case {i}"),
+            Err((i, Stop::TooLarge)) => println!(rt; "{name} case {i}: too large"),
+            Err((_, Stop::Io(e))) => Err(e),
         }
     }
-    Ok(Outcomes::All(differ))
-}
 
-// A file's last line, once its cases are run.
-fn report(
-    rt: &impl Print,
-    file: &mut impl Read,
-    name: &[u8],
-    n: usize,
-    outcomes: Outcomes,
-) -> io::Result<()> {
-    match outcomes {
-        Outcomes::All(differ) => {
-            if read::is_end(file)? {
-                say::total(rt, name, n, differ)
-            } else {
-                say::line(rt, name, b": longer than its counts say")
-            }
+    // The whole file: how many cases it has, and the cases.
+    fn whole<C: Case>(&mut self) -> io::Result<()> {
+        match self.source.word() {
+            Ok(n) => self.cases::<C>(n as usize),
+            Err(Stop::Io(e)) => Err(e),
+            Err(_) => println!(self.rt; "{}: cut short in its count", self.name),
         }
-        Outcomes::Cut(i) => say::numbered_line(rt, name, b": cut short in case ", i, b""),
-        Outcomes::TooLarge(i) => say::numbered_line(rt, name, b" case ", i, b": too large"),
     }
 }
 
-// All cases of an open file.
-fn opened(rt: &impl Print, kind: Kind, file: &mut impl Read, name: &[u8]) -> io::Result<()> {
-    let mut count = [0u32; 1];
-    if read::words(file, &mut count)? {
-        let n = wide(count[0]);
-        let outcomes = cases(rt, kind, file, name, n)?;
-        report(rt, file, name, n, outcomes)
-    } else {
-        say::line(rt, name, b": cut short in its count")
-    }
-}
-
-fn file(rt: &(impl Files + Print), kind: Kind, name: &str) -> io::Result<()> {
+// The file of that name.
+fn file<C: Case>(rt: &(impl Files + Print + AllocGlobal), name: &str) -> io::Result<()> {
     match fs::open(rt, name) {
-        Ok(mut file) => opened(rt, kind, &mut file, name.as_bytes()),
-        Err(_) => say::line(rt, name.as_bytes(), b": missing"),
+        Ok(file) => {
+            let source = Source::new(rt.alloc(), file);
+            Run { rt, name, source }.whole::<C>()
+        }
+        Err(_) => println!(rt; "{name}: missing"),
     }
 }
 
 // The file that an argument names, or the usual one where there are fewer arguments.
-fn named(
-    rt: &(impl Files + Print),
-    kind: Kind,
-    name: Option<String>,
-    usual: &str,
-) -> io::Result<()> {
+fn named<C: Case>(rt: &(impl Files + Print + AllocGlobal), name: Option<String>) -> io::Result<()> {
     match name {
-        Some(name) => file(rt, kind, name.as_str()),
-        None => file(rt, kind, usual),
+        Some(name) => file::<C>(rt, name.as_str()),
+        None => file::<C>(rt, C::FILE),
     }
 }
 
 fn main(rt: HostRuntime) -> io::Result<()> {
-    let mut names = env::args(&rt)?;
-    let _program = names.next();
-    named(&rt, Kind::Steps, names.next(), "steps.words")?;
-    named(&rt, Kind::SetUps, names.next(), "setups.words")?;
-    named(&rt, Kind::Lists, names.next(), "lists.words")?;
-    named(&rt, Kind::Schedules, names.next(), "schedules.bundle")
+    let mut names = env::args(&rt)?.skip(1);
+    named::<SingleStep>(&rt, names.next())?;
+    named::<SetUp>(&rt, names.next())?;
+    named::<Question>(&rt, names.next())?;
+    named::<Schedule>(&rt, names.next())
 }

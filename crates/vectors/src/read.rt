@@ -1,61 +1,107 @@
 // What is read of a file, as much at a time as a case needs.
-ghost use Rattle.std.specs.Prelude.{◌≡◌, ◌*◌, ◌≤◌, length};
+ghost use Rattle.std.specs.Prelude.{◌≡◌, ◌*◌, ◌<◌, ◌≤◌, length, IfOk, OnErr};
 ghost use Rattle.vectors.specs.Compared.{Words};
 
 use replay::schedule::word;
+use std::alloc::{AllocError, Global};
 use std::io;
 use std::io::{ErrorKind, Read};
 
-// The most words that a case's image has room for.
-pub const ROOM: usize = 8300;
-
-// As many words, each of them a pattern that shows where nothing was written.
-pub fn blank() -> [u32; ROOM]
-    ensures { 8300 ≡ length result }
-{
-    [7; ROOM]
+// Why no further case is run: the file can't be read, or it ends, or this case has no room.
+#[derive(Debug, Drop)]
+pub enum Stop {
+    Io(io::Error),
+    Cut,
+    TooLarge,
 }
 
-// Fills a part of memory; whether the file had enough bytes.
-pub fn bytes(file: &mut impl Read, out: &mut [u8]) -> io::Result<bool> {
-    match file.read_exact(out) {
-        Ok(()) => Ok(true),
-        Err(e) if e.kind() == ErrorKind::UnexpectedEof => Ok(false),
-        Err(e) => Err(e),
+impl From<io::Error> for Stop {
+    fn from(e: io::Error) -> Stop {
+        match e.kind() {
+            ErrorKind::UnexpectedEof => Stop::Cut,
+            _ => Stop::Io(e),
+        }
     }
 }
 
+impl From<AllocError> for Stop {
+    fn from(e: AllocError) -> Stop {
+        Stop::Io(io::Error::from(e))
+    }
+}
+
+// The most words that a case's image has room for.
+pub const ROOM: u32 = 8300;
+
+// How many words or bytes a file says come next, if that is no more than there is room for.
+pub fn within(n: u32, most: u32) -> Result<usize, Stop>
+    ensures ok { IfOk result (λ k. (k ≡ n) × (k ≤ most)) }
+    ensures err { OnErr result (most < n) }
+{
+    if most < n {
+        return Err(Stop::TooLarge);
+    }
+    Ok(n as usize)
+}
+
+// A file that is read, and the memory for what is read of it.
+#[derive(Drop)]
+pub struct Source<F> {
+    alloc: Global,
+    file: F,
+}
+
 // Words from bytes, the lowest byte first.
+#[tactic(auto, unfolding(crate::specs::Compared::Words))]
 fn from_bytes(bytes: &[u8], out: &mut [u32])
     requires { length out.old * 4 ≤ length bytes.now }
     ensures { (length out.new ≡ length out.old) × Words bytes.now out.new (length out.new) }
 {
-    for i in 0..out.len() {
-        out[i] = word(bytes, i);
+    for (i, x) in out.iter_mut().enumerate() {
+        *x = word(bytes, i);
     }
 }
 
-// Fills words by way of as many bytes as they have; whether the file had enough.
-fn by_bytes(file: &mut impl Read, space: &mut [u8], out: &mut [u32]) -> io::Result<bool>
-    requires { length out.old * 4 ≤ length space.old }
-{
-    let all = bytes(file, space)?;
-    from_bytes(space, out);
-    Ok(all)
-}
-
-// Fills at most ROOM words; whether the file had enough.
-pub fn words(file: &mut impl Read, out: &mut [u32]) -> io::Result<bool> {
-    let n = out.len();
-    if ROOM < n {
-        return Ok(false);
+impl<F: Read> Source<F> {
+    pub fn new(alloc: Global, file: F) -> Self {
+        Source { alloc, file }
     }
-    let mut space = [0u8; 65536];
-    by_bytes(file, &mut space[..n * 4], out)
-}
 
-// Whether nothing is left.
-pub fn is_end(file: &mut impl Read) -> io::Result<bool> {
-    let mut byte = [0u8; 1];
-    Ok(!bytes(file, &mut byte)?)
+    // Memory for n words or bytes, each of them x at first.
+    pub fn filled<T: Copy>(&self, x: T, n: usize) -> Result<Vec<T>, Stop>
+        ensures { IfOk result (λ xs. length xs.items ≡ n) }
+    {
+        Ok(vec![in self.alloc; x; n]?)
+    }
+
+    // The next n bytes.
+    pub fn bytes(&mut self, n: usize) -> Result<Vec<u8>, Stop>
+        ensures { IfOk result (λ xs. length xs.items ≡ n) }
+    {
+        let mut bytes = self.filled(0, n)?;
+        self.file.read_exact(&mut bytes)?;
+        Ok(bytes)
+    }
+
+    // The next n words.
+    pub fn words(&mut self, n: usize) -> Result<Vec<u32>, Stop>
+        ensures { IfOk result (λ xs. length xs.items ≡ n) }
+    {
+        let bytes = self.bytes(n.checked_mul(4).ok_or(Stop::TooLarge)?)?;
+        let mut words = self.filled(0, n)?;
+        from_bytes(&bytes, &mut words);
+        Ok(words)
+    }
+
+    // The next word.
+    pub fn word(&mut self) -> Result<u32, Stop> {
+        let mut bytes = [0; 4];
+        self.file.read_exact(&mut bytes)?;
+        Ok(u32::from_le_bytes(bytes))
+    }
+
+    // Whether nothing is left.
+    pub fn is_end(&mut self) -> io::Result<bool> {
+        Ok(self.file.by_ref().bytes().next().transpose()?.is_none())
+    }
 }

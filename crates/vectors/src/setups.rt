@@ -1,77 +1,75 @@
 // Set-ups: how many words the buffer has, the six settings, the number, and where that is 0 the image.
-use super::read::ROOM;
-use super::{Outcome, read, tell};
-use image::layout::wide;
+use super::Case;
+use super::read::{ROOM, Source, Stop, within};
+use super::tell::Line;
+use rules::Settings;
 use std::io;
 use std::io::Read;
 
-// Compares how many words are needed, where the settings and the buffer are right.
-fn needed(rt: &impl Print, told: bool, name: &[u8], i: usize, head: &[u32; 8]) -> io::Result<bool> {
-    if head[7] == 0 {
-        let n = image::words_needed(head[1], head[2], head[3], head[4], head[5], head[6]);
-        return tell::number(rt, told, name, i, b"words needed", n, wide(head[0]));
-    }
-    Ok(told)
+// Given and expected are as long. Both hold a pattern, which a refused set-up leaves as it is.
+#[derive(Drop)]
+pub struct SetUp {
+    settings: Settings,
+    number: u32,
+    given: Vec<u32>,
+    expected: Vec<u32>,
 }
 
-// Compares the number and every word of a buffer that is set up.
-fn compared(
-    rt: &impl Print,
-    name: &[u8],
-    i: usize,
-    head: &[u32; 8],
-    given: &mut [u32],
-    expected: &[u32],
-) -> io::Result<Outcome> {
-    let number = image::set_up(given, head[1], head[2], head[3], head[4], head[5], head[6]);
-    let a = tell::number(rt, false, name, i, b"number", wide(number), wide(head[7]))?;
-    let b = needed(rt, a, name, i, head)?;
-    let c = tell::words(rt, b, name, i, given, expected)?;
-    tell::end(rt, c)
+fn read_settings<F: Read>(source: &mut Source<F>) -> Result<Settings, Stop> {
+    Ok(Settings::from([
+        source.word()?,
+        source.word()?,
+        source.word()?,
+        source.word()?,
+        source.word()?,
+        source.word()?,
+    ]))
 }
 
-// Reads the words that are expected: those of the file, or where the number is a refusal the pattern that is there.
-fn expected_words(file: &mut impl Read, number: u32, expected: &mut [u32]) -> io::Result<bool> {
-    if number != 0 {
-        return Ok(true);
+// Tries a set-up: its number, as the file has it.
+fn set_up(words: &mut [u32], settings: Settings) -> u32 {
+    match image::set_up(words, settings) {
+        Ok(()) => 0,
+        Err(why) => u32::from(why),
     }
-    read::words(file, expected)
 }
 
-// A case whose buffers have room. Both hold a pattern, which a refused set-up leaves as it is.
-fn on(
-    rt: &impl Print,
-    file: &mut impl Read,
-    name: &[u8],
-    i: usize,
-    head: &[u32; 8],
-    given: &mut [u32],
-    expected: &mut [u32],
-) -> io::Result<Outcome> {
-    if !expected_words(file, head[7], expected)? {
-        return Ok(Outcome::Cut);
-    }
-    compared(rt, name, i, head, given, expected)
-}
+impl Case for SetUp {
+    const FILE: &'static str = "setups.words";
 
-pub fn case(rt: &impl Print, file: &mut impl Read, name: &[u8], i: usize) -> io::Result<Outcome> {
-    let mut head = [0u32; 8];
-    if !read::words(file, &mut head)? {
-        return Ok(Outcome::Cut);
+    fn read<F: Read>(source: &mut Source<F>) -> Result<Self, Stop> {
+        let n = source.word()?;
+        let settings = read_settings(source)?;
+        let number = source.word()?;
+        let n = within(n, ROOM)?;
+        let given = source.filled(7, n)?;
+        let expected = if number == 0 {
+            source.words(n)?
+        } else {
+            source.filled(7, n)?
+        };
+        Ok(SetUp {
+            settings,
+            number,
+            given,
+            expected,
+        })
     }
-    let n = wide(head[0]);
-    if ROOM < n {
-        return Ok(Outcome::TooLarge);
+
+    // The number, how many words are needed where the settings and the buffer are right, and every word of the buffer.
+    fn compare<R: Print>(mut self, line: &mut Line<'_, R>) -> io::Result<()> {
+        line.number(
+            "number",
+            set_up(&mut self.given, self.settings),
+            self.number,
+        )?;
+        if self.number == 0 {
+            line.number(
+                "words needed",
+                image::words_needed(self.settings),
+                self.given.len(),
+            )?;
+        }
+        line.items("word", &self.given, &self.expected)
     }
-    let mut given = read::blank();
-    let mut expected = read::blank();
-    on(
-        rt,
-        file,
-        name,
-        i,
-        &head,
-        &mut given[..n],
-        &mut expected[..n],
-    )
 }

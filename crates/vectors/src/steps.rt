@@ -1,74 +1,56 @@
 // Single steps: how many words the image has, the image, the step, the number, the value, the image afterwards.
-use super::read::ROOM;
-use super::{Outcome, read, tell};
-use image::layout::wide;
+use super::Case;
+use super::read::{ROOM, Source, Stop, within};
+use super::tell::Line;
+use rules::Step;
 use std::io;
 use std::io::Read;
 
-// Compares the number, the value and every word after a step.
-fn compared(
-    rt: &impl Print,
-    name: &[u8],
-    i: usize,
-    step: &[u32; 7],
-    image: &mut [u32],
-    after: &[u32],
-) -> io::Result<Outcome> {
-    let reply = machine::step(image, step[0], step[1], step[2], step[3], step[4]);
-    let a = tell::number(
-        rt,
-        false,
-        name,
-        i,
-        b"number",
-        wide(rules::number(reply)),
-        wide(step[5]),
-    )?;
-    let b = tell::number(
-        rt,
-        a,
-        name,
-        i,
-        b"value",
-        wide(rules::value(reply)),
-        wide(step[6]),
-    )?;
-    let c = tell::words(rt, b, name, i, image, after)?;
-    tell::end(rt, c)
+// A step on an image, what it must give, and the image as it must be afterwards.
+#[derive(Drop)]
+pub struct SingleStep {
+    image: Vec<u32>,
+    step: Step,
+    number: u32,
+    value: u32,
+    after: Vec<u32>,
 }
 
-// A case whose image and image afterwards have room.
-fn on(
-    rt: &impl Print,
-    file: &mut impl Read,
-    name: &[u8],
-    i: usize,
-    image: &mut [u32],
-    after: &mut [u32],
-) -> io::Result<Outcome> {
-    let mut step = [0u32; 7];
-    if !read::words(file, image)? {
-        return Ok(Outcome::Cut);
-    }
-    if !read::words(file, &mut step)? {
-        return Ok(Outcome::Cut);
-    }
-    if !read::words(file, after)? {
-        return Ok(Outcome::Cut);
-    }
-    compared(rt, name, i, &step, image, after)
+fn read_step<F: Read>(source: &mut Source<F>) -> Result<Step, Stop> {
+    Ok(Step {
+        thread: source.word()?,
+        op: source.word()?,
+        a: source.word()?,
+        b: source.word()?,
+        c: source.word()?,
+    })
 }
 
-pub fn case(rt: &impl Print, file: &mut impl Read, name: &[u8], i: usize) -> io::Result<Outcome> {
-    let mut head = [0u32; 1];
-    if !read::words(file, &mut head)? {
-        return Ok(Outcome::Cut);
+// Takes a step: number and value of its reply, as the file has them.
+fn reply(image: &mut [u32], step: Step) -> (u32, u32) {
+    let reply = machine::step(image, step);
+    (rules::number(reply), rules::value(reply))
+}
+
+impl Case for SingleStep {
+    const FILE: &'static str = "steps.words";
+
+    fn read<F: Read>(source: &mut Source<F>) -> Result<Self, Stop> {
+        let n = within(source.word()?, ROOM)?;
+        Ok(SingleStep {
+            image: source.words(n)?,
+            step: read_step(source)?,
+            number: source.word()?,
+            value: source.word()?,
+            after: source.words(n)?,
+        })
     }
-    let n = wide(head[0]);
-    if ROOM < n {
-        return Ok(Outcome::TooLarge);
+
+    // The number, the value and every word after the step.
+    fn compare<R: Print>(mut self, line: &mut Line<'_, R>) -> io::Result<()> {
+        let (number, value) = reply(&mut self.image, self.step);
+        line.number("number", number, self.number)?;
+        line.number("value", value, self.value)?;
+        line.items("word", &self.image, &self.after)
     }
-    let mut image = read::blank();
-    let mut after = read::blank();
-    on(rt, file, name, i, &mut image[..n], &mut after[..n])
 }

@@ -1,2 +1,4 @@
--- What the contracts of this crate cite besides the rules and the layout.
+-- What the contracts of this crate cite besides the rules and the image.
+pub mod Answers
+pub mod Operands
 pub mod Rows

@@ -1,46 +1,45 @@
 -- A step's answer as the code comes to it: a row of the table that is given, or the operation's own answer.
-use Rattle.std.proofs.Common.{◌≡◌, ℕ, ◌+◌, ◌<◌, ◌≤◌, Bool, true, false, not, ◌&&◌, eqb, leb, ltb, ◌≢◌, ◌⊎◌, Result, Err, refl, sym, ap, ◌∙◌, arith, le-leb, le_refl, eq-eqb, lt-ltb}
+use Rattle.std.proofs.Common.{◌≡◌, ℕ, ◌<◌, ◌≤◌, Bool, true, false, not, ◌&&◌, eqb, leb, ltb, ◌≢◌, ◌⊎◌, Result, Err, refl, sym, ◌∙◌, arith, le-leb, le_refl, eq-eqb, lt-ltb}
 use mathlib.Core.Bool.{or-true}
 use borrow.Author.Tests.{lt-leb}
+use Rattle.rules.specs.declared.Settings.{Settings}
 use Rattle.rules.specs.declared.Why.{Why}
-use Rattle.rules.specs.declared.Why.TheVariants.{NoSuchOperation, NoSuchThread, OperandBeyond, HandlerRunning, PhaseForbids}
 use Rattle.rules.specs.declared.Operation.{Operation}
 use Rattle.rules.specs.declared.Operation.TheVariants.{Allocate, Swap, Load, Reserve, Check, Use, Clear, Retire, Advance, Deliver, Handle}
 use Rattle.rules.specs.declared.Phase.{Phase}
 use Rattle.rules.specs.declared.Phase.TheVariants.{Idle, Loaded, Reserved, Freeing}
 use Rattle.rules.specs.declared.Step.{Step}
 use Rattle.rules.specs.Settings.{room}
-use Rattle.rules.specs.Phases.{operations, phases, collecting, freeing, allows, #reserve, #check, #deliver, #handle}
+use Rattle.rules.specs.Phases.{operations, collecting, freeing, allows, #deliver}
 use Rattle.rules.specs.State.{State, handler, phase, u, v, list_length, entry, Answer, refused}
 use Rattle.rules.specs.Damaged.{in_use}
 use Rattle.rules.specs.Replies.{step_of, op_number, phase_number, why_number}
 use Rattle.rules.specs.Step.{perform, answer}
-use Rattle.rules.proofs.Limits.{Limits}
-use Rattle.rules.proofs.Sound.{Sound, Thread}
-use Rattle.rules.proofs.Checked.{checked, late, handling, answer_2, answer_3, answer_4, answer_5, answer_6, answer_late, Entered, entered}
+use Rattle.rules.proofs.Sound.{Thread}
+use Rattle.rules.proofs.Checked.{checked, late, handling, answer_2, answer_3, answer_4, answer_5, answer_6, answer_late, entered}
 use Rattle.rules.proofs.Refused.{operand_wrong}
 use Rattle.image.specs.declared.layout.Layout.{Layout}
 use Rattle.image.specs.declared.view.Image.{Image}
 use Rattle.image.specs.Views.{state}
+use Rattle.machine.specs.Admitted.{Admitted}
 use Rattle.machine.specs.Answers.{Answered}
 use Rattle.machine.proofs.Joins.{says}
 
 -- a refusal leaves all as it is
-pub refuses : (i : Image) (y : Why) {a : Answer} → a ≡ refused (why_number y) → Answered i i (Err y) a
-refuses i y e = record { same = refl; layout = refl; outcome = rw e }
+pub refuses : {i : Image} {r : Result ℕ Why} {y : Why} {a : Answer} → r ≡ Err y → a ≡ refused (why_number y) → Answered i i r a
+refuses e h = rw (e, h) (record { same = refl; layout = refl; outcome = refl })
 
 -- the operation that the step names
-pub at_op : (i j : Image) (s : Step) (k : ℕ) {r : Result ℕ Why} {x : Answer} → s.op ≡ k
+pub at_op : {i j : Image} (s : Step) (k : ℕ) {at : Phase} {r : Result ℕ Why} {x : Answer} → Admitted i.layout.settings (state i) s at → s.op ≡ k
     → checked (late i.layout.settings (state i) s.thread k s.a s.b s.c) (perform i.layout.settings (state i) (step_of s.thread k s.a s.b s.c)) ≡ x
-    → Answered i j r x → Answered i j r (checked (late i.layout.settings (state i) s.thread s.op s.a s.b s.c) (perform i.layout.settings (state i) s))
-at_op i j s k e h g = rw (e, h) g
+    → Answered i j r x → Answered i j r (answer i.layout.settings (state i) s)
+at_op s k d e h g = says d.left (rw (e, h) g)
 
--- the rows 2 to 6 as the code tests them: h and p are the thread's handler and phase
-module _ (i : Image) (s : Step) where
-  pub out_2 : {y : Why} → (y ≡ NoSuchOperation) × (operations ≤ s.op) → Answered i i (Err y) (answer i.layout.settings (state i) s)
-  out_2 h = rw h.0 (refuses i NoSuchOperation (answer_2 i.layout.settings (state i) s.thread s.op s.a s.b s.c (le-leb _ _ h.1)))
+-- the rows 2 to 6 as the code tests them: o is the operation, h and p are the thread's handler and phase
+module _ (S : Settings) (m : State) (s : Step) where
+  pub out_2 : operations ≤ s.op → answer S m s ≡ refused 2
+  out_2 h = answer_2 S m s.thread s.op s.a s.b s.c (le-leb _ _ h)
 
-  -- the operation is o
   module _ (o : Operation) (e2 : op_number o ≡ s.op) where
     known : s.op < operations
     known = rw (← e2) (elim o as (λ o. op_number o < operations) [ Allocate ↦ omega arith | Swap ↦ omega arith | Load ↦ omega arith | Reserve ↦ omega arith | Check ↦ omega arith | Use ↦ omega arith | Clear ↦ omega arith | Retire ↦ omega arith | Advance ↦ omega arith | Deliver ↦ omega arith | Handle ↦ omega arith ])
@@ -48,36 +47,36 @@ module _ (i : Image) (s : Step) where
     row_2 : leb operations s.op ≡ false
     row_2 = lt-leb operations s.op known
 
-    pub out_3 : i.layout.settings.threads ≤ s.thread → Answered i i (Err NoSuchThread) (answer i.layout.settings (state i) s)
-    out_3 h = refuses i NoSuchThread (answer_3 i.layout.settings (state i) s.thread s.op s.a s.b s.c row_2 (le-leb _ _ h))
+    pub out_3 : S.threads ≤ s.thread → answer S m s ≡ refused 3
+    out_3 h = answer_3 S m s.thread s.op s.a s.b s.c row_2 (le-leb _ _ h)
 
-    module _ (h3 : s.thread < i.layout.settings.threads) {w : Bool} (e4 : w ≡ operand_wrong i.layout.settings s) where
-      row_3 : leb i.layout.settings.threads s.thread ≡ false
-      row_3 = lt-leb i.layout.settings.threads s.thread h3
+    module _ (h3 : s.thread < S.threads) {w : Bool} (e4 : w ≡ operand_wrong S s) where
+      row_3 : leb S.threads s.thread ≡ false
+      row_3 = lt-leb S.threads s.thread h3
 
-      pub out_4 : w ≡ true → Answered i i (Err OperandBeyond) (answer i.layout.settings (state i) s)
-      out_4 h = refuses i OperandBeyond (answer_4 i.layout.settings (state i) s.thread s.op s.a s.b s.c row_2 row_3 (sym e4 ∙ h))
+      pub out_4 : w ≡ true → answer S m s ≡ refused 4
+      out_4 h = answer_4 S m s.thread s.op s.a s.b s.c row_2 row_3 (sym e4 ∙ h)
 
-      module _ (h4 : w ≡ false) {h : ℕ} {b : Bool} (e5 : h ≡ handler (state i) s.thread) (d5 : b ≡ leb (op_number o) #deliver) where
-        handling_is : (not (eqb h 0) && b) ≡ handling (state i) s
+      module _ (h4 : w ≡ false) {h : ℕ} {b : Bool} (e5 : h ≡ handler m s.thread) (d5 : b ≡ leb (op_number o) #deliver) where
+        handling_is : (not (eqb h 0) && b) ≡ handling m s
         handling_is = rw (e5, d5, e2)
 
-        pub out_5 : (not (eqb h 0) && b) ≡ true → Answered i i (Err HandlerRunning) (answer i.layout.settings (state i) s)
-        out_5 g = refuses i HandlerRunning (answer_5 i.layout.settings (state i) s.thread s.op s.a s.b s.c row_2 row_3 (sym e4 ∙ h4) (sym handling_is ∙ g))
+        pub out_5 : (not (eqb h 0) && b) ≡ true → answer S m s ≡ refused 5
+        out_5 g = answer_5 S m s.thread s.op s.a s.b s.c row_2 row_3 (sym e4 ∙ h4) (sym handling_is ∙ g)
 
-        module _ (h5 : (not (eqb h 0) && b) ≡ false) {p : ℕ} {y : Bool} (e6 : p ≡ phase (state i) s.thread) (f6 : y ≡ allows (op_number o) p) where
-          allows_is : y ≡ allows s.op (phase (state i) s.thread)
+        module _ (h5 : (not (eqb h 0) && b) ≡ false) (p : Phase) {y : Bool} (e6 : phase_number p ≡ phase m s.thread) (f6 : y ≡ allows (op_number o) (phase_number p)) where
+          allows_is : y ≡ allows s.op (phase m s.thread)
           allows_is = f6 ∙ rw (e2, e6)
 
-          pub out_6 : y ≡ false → Answered i i (Err PhaseForbids) (answer i.layout.settings (state i) s)
-          out_6 g = refuses i PhaseForbids (answer_6 i.layout.settings (state i) s.thread s.op s.a s.b s.c row_2 row_3 (sym e4 ∙ h4) (sym handling_is ∙ h5) (sym allows_is ∙ g))
+          pub out_6 : y ≡ false → answer S m s ≡ refused 6
+          out_6 g = answer_6 S m s.thread s.op s.a s.b s.c row_2 row_3 (sym e4 ∙ h4) (sym handling_is ∙ h5) (sym allows_is ∙ g)
 
-          pub out_late : {j : Image} {r : Result ℕ Why} → y ≡ true → Answered i j r (checked (late i.layout.settings (state i) s.thread s.op s.a s.b s.c) (perform i.layout.settings (state i) s))
-              → Answered i j r (answer i.layout.settings (state i) s)
-          out_late g q = says (answer_late i.layout.settings (state i) s.thread s.op s.a s.b s.c row_2 row_3 (sym e4 ∙ h4) (sym handling_is ∙ h5) (sym allows_is ∙ g)) q
-
-          pub enters : y ≡ true → Entered i.layout.settings (state i) s
-          enters g = entered i.layout.settings (state i) s.thread s.op s.a s.b s.c known h3 (sym e4 ∙ h4) (sym allows_is ∙ g)
+          pub admitted : y ≡ true → Admitted S m s p
+          admitted g = record {
+            phase = e6;
+            entered = entered S m s.thread s.op s.a s.b s.c known h3 (sym e4 ∙ h4) (sym allows_is ∙ g);
+            left = answer_late S m s.thread s.op s.a s.b s.c row_2 row_3 (sym e4 ∙ h4) (sym handling_is ∙ h5) (sym allows_is ∙ g);
+          }
 
 -- no phase from 3 on but freeing is left
 pub freeing_left : (p : Phase) {n : ℕ} → phase_number p ≡ n → collecting ≤ n → (p ≡ Freeing) ⊎ (p ≡ Idle) ⊎ (p ≡ Loaded) ⊎ (p ≡ Reserved) → n ≡ freeing

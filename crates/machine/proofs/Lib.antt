@@ -4,3 +4,4 @@ pub mod Passed
 pub mod Operands
 pub mod Joins
 pub mod Dispatch
+pub mod Undamaged

@@ -1,5 +1,5 @@
 -- The words of a section whose rows are a word each, as the state has them; and a reclaimer's pick of two such sections.
-use Rattle.std.proofs.Common.{◌≡◌, List, ℕ, ◌+◌, ◌*◌, ◌-◌, ◌/◌, ◌%◌, ◌≤◌, ◌<◌, eqb, length, get_or, take, drop, refl, sym, ap, ◌∙◌, arith, le_refl, mod-lt, suc-mul, div-lt_iff_lt-mul, mul-le-mul, div-add-mod', get_or-drop, get_or-take}
+use Rattle.std.proofs.Common.{◌≡◌, List, ℕ, ◌+◌, ◌*◌, ◌/◌, ◌%◌, ◌≤◌, ◌<◌, eqb, length, get_or, take, drop, refl, sym, ap, ◌∙◌, arith, le_refl, mod-lt, suc-mul, div-lt_iff_lt-mul, mul-le-mul, div-add-mod', get_or-drop, get_or-take}
 use Rattle.rules.specs.declared.Settings.{Settings}
 use Rattle.rules.specs.declared.Kind.{Kind}
 use Rattle.rules.specs.declared.Kind.TheVariants.{Private, Published}

@@ -40,11 +40,7 @@ fn dead(view: &View<'_>, c: u32) -> bool
     requires { c ≤ view.now.layout.settings.records }
     ensures { result ≡ (not (c == 0) && not (status (seen view.now) c == 1)) }
 {
-    if c == 0 {
-        false
-    } else {
-        view.word(Kind::Status, c as usize, 0) != 1
-    }
+    c != 0 && view.word(Kind::Status, c as usize, 0) != 1
 }
 
 // 1: cell a, expected b, new c

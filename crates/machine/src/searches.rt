@@ -14,7 +14,7 @@ fn any(words: &[u32], x: u32) -> bool
 {
     let mut hit = false;
     for word in words {
-        hit = hit | (*word == x);
+        hit |= *word == x;
     }
     hit
 }

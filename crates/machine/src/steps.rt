@@ -1,22 +1,21 @@
 // A step on an image that is known to be undamaged.
-ghost use Rattle.std.specs.Prelude.{◌≡◌};
-ghost use Rattle.rules.specs.Phases as table;
-ghost use Rattle.rules.specs.State.{phase};
-ghost use Rattle.rules.specs.Replies.{op_number, phase_number};
+ghost use Rattle.std.specs.Prelude.{◌≡◌, MatchResult};
+ghost use Rattle.rules.specs.State.{refused};
+ghost use Rattle.rules.specs.Replies.{op_number, why_number};
 ghost use Rattle.rules.specs.Step as rule;
 ghost use Rattle.rules.proofs.Sound.{Sound};
-ghost use Rattle.rules.proofs.Checked.{checked, late, Entered};
-ghost use Rattle.image.specs.Views.{state};
+ghost use Rattle.image.specs.Views.{seen, state};
 ghost use Rattle.machine.specs.Answers.{Answered};
+ghost use Rattle.machine.specs.Admitted.{Admitted};
 
 use super::{advance, operations, refusals};
-use image::view::Image;
+use image::view::{Image, View};
 use rules::{Kind, Operation, Phase, Reply, Step, Why};
 
-// The operation, where the refusals 2 to 5 and its phase are past.
+// The operation, past the rows of the table that belong to none.
 fn perform(image: &mut Image<'_>, op: Operation, at: Phase, step: Step) -> Reply
-    requires { (op_number op ≡ step.op) × (phase_number at ≡ phase (state image.old) step.thread) × (Sound image.old.layout.settings (state image.old)) × (Entered image.old.layout.settings (state image.old) step) }
-    ensures { Answered image.old image.new result (checked (late image.old.layout.settings (state image.old) step.thread step.op step.a step.b step.c) (rule.perform image.old.layout.settings (state image.old) step)) }
+    requires { (op_number op ≡ step.op) × (Sound image.old.layout.settings (state image.old)) × (Admitted image.old.layout.settings (state image.old) step at) }
+    ensures { Answered image.old image.new result (rule.answer image.old.layout.settings (state image.old) step) }
 {
     let t = step.thread as usize;
     match op {
@@ -34,27 +33,35 @@ fn perform(image: &mut Image<'_>, op: Operation, at: Phase, step: Step) -> Reply
     }
 }
 
+// The rows 3 to 6 of the table of replies: which of them refuses the step, or the thread's phase.
+fn admit(view: &View<'_>, op: Operation, step: Step) -> Result<Phase, Why>
+    requires { (op_number op ≡ step.op) × (Sound view.now.layout.settings (seen view.now)) }
+    ensures { MatchResult result (λ at. Admitted view.now.layout.settings (seen view.now) step at) (λ why. rule.answer view.now.layout.settings (seen view.now) step ≡ refused (why_number why)) }
+{
+    let t = step.thread as usize;
+    if view.layout.settings.threads <= t {
+        return Err(Why::NoSuchThread);
+    }
+    if refusals::wrong_operand(view.layout, op, step) {
+        return Err(Why::OperandBeyond);
+    }
+    if (view.word(Kind::Handler, t, 0) != 0) & (op != Operation::Handle) {
+        return Err(Why::HandlerRunning);
+    }
+    let at = Phase::try_from(view.word(Kind::Phase, t, 0))?;
+    if refusals::allowed(op, at) {
+        Ok(at)
+    } else {
+        Err(Why::PhaseForbids)
+    }
+}
+
 // A step, number 1 apart.
 pub fn step_on(image: &mut Image<'_>, step: Step) -> Reply
     requires { Sound image.old.layout.settings (state image.old) }
     ensures { Answered image.old image.new result (rule.answer image.old.layout.settings (state image.old) step) }
 {
     let op = Operation::try_from(step.op)?;
-    let t = step.thread as usize;
-    if image.layout.settings.threads <= t {
-        return Err(Why::NoSuchThread);
-    }
-    if refusals::wrong_operand(image.layout, op, step) {
-        return Err(Why::OperandBeyond);
-    }
-    let view = image.view();
-    if (view.word(Kind::Handler, t, 0) != 0) & (op != Operation::Handle) {
-        return Err(Why::HandlerRunning);
-    }
-    let at = Phase::try_from(view.word(Kind::Phase, t, 0))?;
-    if refusals::allowed(op, at) {
-        perform(image, op, at, step)
-    } else {
-        Err(Why::PhaseForbids)
-    }
+    let at = admit(&image.view(), op, step)?;
+    perform(image, op, at, step)
 }

@@ -7,20 +7,20 @@ use Rattle.machine.proofs.advance.free.Goals as goal
 pub overflow_add-k : goal.overflow_add-k
 overflow_add-k c =
     let v = c.view-view.ensures in
-    omega (arith, told c.args.image.now c.view-view.result v.words v.layout c.args.t _ _ _ c.word-k.ensures, c.requires.1, c.requires.2, room_fits c.args.image.now.layout)
+    omega (arith, told c.args.image.now c.view-view.result v.words v.layout _ _ _ c.word-k.ensures, c.requires.1, c.requires.2, room_fits c.args.image.now.layout)
 
 pub freed_on-requires : goal.freed_on-requires
 freed_on-requires c =
     let v = c.view-view.ensures in (
       rw (c.set-then-noted.ensures.layout, c.set.ensures.layout) c.requires.0,
-      omega (arith, told c.args.image.now c.view-view.result v.words v.layout c.args.t _ _ _ c.word-i.ensures, c.requires.1, room_fits c.args.image.now.layout),
+      omega (arith, told c.args.image.now c.view-view.result v.words v.layout _ _ _ c.word-i.ensures, c.requires.1, room_fits c.args.image.now.layout),
     )
 
 pub freed_on-requires-else-noted : goal.freed_on-requires-else-noted
 freed_on-requires-else-noted c =
     let v = c.view-view.ensures in (
       rw (c.set-else-noted-2.ensures.layout, c.set-else-noted.ensures.layout) c.requires.0,
-      omega (arith, told c.args.image.now c.view-view.result v.words v.layout c.args.t _ _ _ c.word-i.ensures, c.requires.1, room_fits c.args.image.now.layout),
+      omega (arith, told c.args.image.now c.view-view.result v.words v.layout _ _ _ c.word-i.ensures, c.requires.1, room_fits c.args.image.now.layout),
     )
 
 pub returns-then-noted : goal.returns-then-noted

@@ -7,7 +7,7 @@ use Rattle.machine.proofs.operations.retire.Goals as goal
 pub overflow_add-result : goal.overflow_add-result
 overflow_add-result c =
     let v = c.view-view.ensures in
-    omega (arith, told c.args.image.now c.view-view.result v.words v.layout c.args.t _ _ _ c.word-n.ensures, c.requires.3, room_fits c.args.image.now.layout)
+    omega (arith, told c.args.image.now c.view-view.result v.words v.layout _ _ _ c.word-n.ensures, c.requires.3, room_fits c.args.image.now.layout)
 
 pub returns : goal.returns
 returns c =

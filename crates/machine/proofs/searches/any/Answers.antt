@@ -1,5 +1,5 @@
 -- A word more.
-use Rattle.std.proofs.Common.{arith, sym}
+use Rattle.std.proofs.Common.{sym}
 use Rattle.rules.proofs.Laws.{some_more, some_none}
 use Rattle.machine.proofs.searches.any.Goals as goal
 

@@ -1,5 +1,5 @@
 -- A block more, or the answer.
-use Rattle.std.proofs.Common.{arith, ◌∙◌, sym}
+use Rattle.std.proofs.Common.{◌∙◌, sym}
 use Rattle.machine.proofs.Passed.{block_inside, block_passed, block_rest}
 use Rattle.machine.proofs.searches.without_zero.Goals as goal
 

@@ -1,107 +1,99 @@
 -- A step's answer as the code comes to it: a row of the table that is given, or the operation's own answer.
-use Rattle.std.proofs.Common.{◌≡◌, ℕ, ◌+◌, ◌<◌, ◌≤◌, Bool, true, false, not, ◌&&◌, eqb, leb, List, sym, ap, ◌∙◌, zero-le, arith, le-leb}
+use Rattle.std.proofs.Common.{◌≡◌, ℕ, ◌<◌, ◌≤◌, Bool, true, false, not, ◌&&◌, eqb, leb, ltb, ◌≢◌, ◌⊎◌, Result, Err, refl, sym, ◌∙◌, arith, le-leb, le_refl, eq-eqb, lt-ltb}
+use mathlib.Core.Bool.{or-true}
 use borrow.Author.Tests.{lt-leb}
 use Rattle.rules.specs.declared.Settings.{Settings}
-use Rattle.rules.specs.Settings.{room}
-use Rattle.rules.specs.Phases.{operations, phases, allows, #reserve, #check, #deliver, #handle}
-use Rattle.rules.specs.State.{State, handler, phase, u, v, list_length, entry, Answer, refused}
-use Rattle.rules.specs.Image.{view, Outcome, outcome, after}
+use Rattle.rules.specs.declared.Why.{Why}
+use Rattle.rules.specs.declared.Operation.{Operation}
+use Rattle.rules.specs.declared.Operation.TheVariants.{Allocate, Swap, Load, Reserve, Check, Use, Clear, Retire, Advance, Deliver, Handle}
+use Rattle.rules.specs.declared.Phase.{Phase}
+use Rattle.rules.specs.declared.Phase.TheVariants.{Idle, Loaded, Reserved, Freeing}
 use Rattle.rules.specs.declared.Step.{Step}
-use Rattle.rules.specs.Replies.{step_of}
+use Rattle.rules.specs.Settings.{room}
+use Rattle.rules.specs.Phases.{operations, collecting, freeing, allows, #deliver}
+use Rattle.rules.specs.State.{State, handler, phase, u, v, list_length, entry, Answer, refused}
+use Rattle.rules.specs.Damaged.{in_use}
+use Rattle.rules.specs.Replies.{step_of, op_number, phase_number, why_number}
 use Rattle.rules.specs.Step.{perform, answer}
-use Rattle.rules.proofs.Sound.{Sound, Thread}
-use Rattle.rules.proofs.Checked.{checked, late, handling, answer_2, answer_3, answer_4, answer_5, answer_6, answer_late, Entered, entered}
+use Rattle.rules.proofs.Sound.{Thread}
+use Rattle.rules.proofs.Checked.{checked, late, handling, answer_2, answer_3, answer_4, answer_5, answer_6, answer_late, entered}
 use Rattle.rules.proofs.Refused.{operand_wrong}
-use Rattle.rules.proofs.Branches.{says}
+use Rattle.image.specs.declared.layout.Layout.{Layout}
+use Rattle.image.specs.declared.view.Image.{Image}
+use Rattle.image.specs.Views.{state}
+use Rattle.machine.specs.Admitted.{Admitted}
+use Rattle.machine.specs.Answers.{Answered}
+use Rattle.machine.proofs.Joins.{says}
 
--- a refusal leaves the image as it is
-pub refusing : (S : Settings) (I : List ℕ) {a : Answer} {n : ℕ} → a ≡ refused n → outcome n 0 I ≡ after S I a
-refusing S I e = rw e
+-- a refusal leaves all as it is
+pub refuses : {i : Image} {r : Result ℕ Why} {y : Why} {a : Answer} → r ≡ Err y → a ≡ refused (why_number y) → Answered i i r a
+refuses e h = rw (e, h) (record { same = refl; layout = refl; outcome = refl })
 
--- the operation that op is
-pub at_op : (S : Settings) (I : List ℕ) (m : State) (t : ℕ) {op : ℕ} (k a b c : ℕ) {x : Answer} {o : Outcome} → op ≡ k
-    → checked (late S m t k a b c) (perform S m (step_of t k a b c)) ≡ x → o ≡ after S I x
-    → o ≡ after S I (checked (late S m t op a b c) (perform S m (step_of t op a b c)))
-at_op S I m t k a b c e h g = rw (e, h) g
+-- the operation that the step names
+pub at_op : {i j : Image} (s : Step) (k : ℕ) {at : Phase} {r : Result ℕ Why} {x : Answer} → Admitted i.layout.settings (state i) s at → s.op ≡ k
+    → checked (late i.layout.settings (state i) s.thread k s.a s.b s.c) (perform i.layout.settings (state i) (step_of s.thread k s.a s.b s.c)) ≡ x
+    → Answered i j r x → Answered i j r (answer i.layout.settings (state i) s)
+at_op s k d e h g = says d.left (rw (e, h) g)
 
--- the one that is none of the others
-past : {op k : ℕ} → k ≤ op → (op ≡ k → ⊥) → k + 1 ≤ op
-past h n = omega arith
+-- the rows 2 to 6 as the code tests them: o is the operation, h and p are the thread's handler and phase
+module _ (S : Settings) (m : State) (s : Step) where
+  pub out_2 : operations ≤ s.op → answer S m s ≡ refused 2
+  out_2 h = answer_2 S m s.thread s.op s.a s.b s.c (le-leb _ _ h)
 
-last : {op : ℕ} → #handle ≤ op → op < operations → op ≡ #handle
-last h k = omega arith
+  module _ (o : Operation) (e2 : op_number o ≡ s.op) where
+    known : s.op < operations
+    known = rw (← e2) (elim o as (λ o. op_number o < operations) [ Allocate ↦ omega arith | Swap ↦ omega arith | Load ↦ omega arith | Reserve ↦ omega arith | Check ↦ omega arith | Use ↦ omega arith | Clear ↦ omega arith | Retire ↦ omega arith | Advance ↦ omega arith | Deliver ↦ omega arith | Handle ↦ omega arith ])
 
-pub last_op : {op : ℕ} → op < operations
-    → ((((((((((Unit {0} × (op ≡ 0 → ⊥)) × (op ≡ 1 → ⊥)) × (op ≡ 2 → ⊥)) × (op ≡ 3 → ⊥)) × (op ≡ 4 → ⊥)) × (op ≡ 5 → ⊥)) × (op ≡ 6 → ⊥)) × (op ≡ 7 → ⊥)) × (op ≡ 8 → ⊥)) × (op ≡ 9 → ⊥))
-    → op ≡ #handle
-last_op h r =
-    last (past (past (past (past (past (past (past (past (past (past zero-le
-    r.0.0.0.0.0.0.0.0.0.1) r.0.0.0.0.0.0.0.0.1) r.0.0.0.0.0.0.0.1) r.0.0.0.0.0.0.1)
-    r.0.0.0.0.0.1) r.0.0.0.0.1) r.0.0.0.1) r.0.0.1) r.0.1) r.1) h
+    row_2 : leb operations s.op ≡ false
+    row_2 = lt-leb operations s.op known
 
--- the rows 2 to 6 as the code tests them: h and p are thread t's handler and phase
-module _ (S : Settings) (I : List ℕ) (t op a b c : ℕ) where
-  abbrev m : State
-  m = view S I
+    pub out_3 : S.threads ≤ s.thread → answer S m s ≡ refused 3
+    out_3 h = answer_3 S m s.thread s.op s.a s.b s.c row_2 (le-leb _ _ h)
 
-  abbrev s : Step
-  s = step_of t op a b c
+    module _ (h3 : s.thread < S.threads) {w : Bool} (e4 : w ≡ operand_wrong S s) where
+      row_3 : leb S.threads s.thread ≡ false
+      row_3 = lt-leb S.threads s.thread h3
 
-  pub out_2 : operations ≤ op → outcome 2 0 I ≡ after S I (answer S m s)
-  out_2 h = refusing S I (answer_2 S m t op a b c (le-leb _ _ h))
+      pub out_4 : w ≡ true → answer S m s ≡ refused 4
+      out_4 h = answer_4 S m s.thread s.op s.a s.b s.c row_2 row_3 (sym e4 ∙ h)
 
-  module _ (h2 : op < operations) where
-    row_2 : leb operations op ≡ false
-    row_2 = lt-leb operations op h2
+      module _ (h4 : w ≡ false) {h : ℕ} {b : Bool} (e5 : h ≡ handler m s.thread) (d5 : b ≡ leb (op_number o) #deliver) where
+        handling_is : (not (eqb h 0) && b) ≡ handling m s
+        handling_is = rw (e5, d5, e2)
 
-    pub out_3 : S.threads ≤ t → outcome 3 0 I ≡ after S I (answer S m s)
-    out_3 h = refusing S I (answer_3 S m t op a b c row_2 (le-leb _ _ h))
+        pub out_5 : (not (eqb h 0) && b) ≡ true → answer S m s ≡ refused 5
+        out_5 g = answer_5 S m s.thread s.op s.a s.b s.c row_2 row_3 (sym e4 ∙ h4) (sym handling_is ∙ g)
 
-    module _ (h3 : t < S.threads) {w : Bool} (e4 : w ≡ operand_wrong S s) where
-      row_3 : leb S.threads t ≡ false
-      row_3 = lt-leb S.threads t h3
+        module _ (h5 : (not (eqb h 0) && b) ≡ false) (p : Phase) {y : Bool} (e6 : phase_number p ≡ phase m s.thread) (f6 : y ≡ allows (op_number o) (phase_number p)) where
+          allows_is : y ≡ allows s.op (phase m s.thread)
+          allows_is = f6 ∙ rw (e2, e6)
 
-      pub out_4 : w ≡ true → outcome 4 0 I ≡ after S I (answer S m s)
-      out_4 h = refusing S I (answer_4 S m t op a b c row_2 row_3 (sym e4 ∙ h))
+          pub out_6 : y ≡ false → answer S m s ≡ refused 6
+          out_6 g = answer_6 S m s.thread s.op s.a s.b s.c row_2 row_3 (sym e4 ∙ h4) (sym handling_is ∙ h5) (sym allows_is ∙ g)
 
-      module _ (h4 : w ≡ false) {h : ℕ} (e5 : h ≡ handler m t) where
-        handling_is : (not (eqb h 0) && leb op #deliver) ≡ handling m s
-        handling_is = rw e5
+          pub admitted : y ≡ true → Admitted S m s p
+          admitted g = record {
+            phase = e6;
+            entered = entered S m s.thread s.op s.a s.b s.c known h3 (sym e4 ∙ h4) (sym allows_is ∙ g);
+            left = answer_late S m s.thread s.op s.a s.b s.c row_2 row_3 (sym e4 ∙ h4) (sym handling_is ∙ h5) (sym allows_is ∙ g);
+          }
 
-        pub out_5 : (not (eqb h 0) && leb op #deliver) ≡ true → outcome 5 0 I ≡ after S I (answer S m s)
-        out_5 g = refusing S I (answer_5 S m t op a b c row_2 row_3 (sym e4 ∙ h4) (sym handling_is ∙ g))
+-- no phase from 3 on but freeing is left
+pub freeing_left : (p : Phase) {n : ℕ} → phase_number p ≡ n → collecting ≤ n → (p ≡ Freeing) ⊎ (p ≡ Idle) ⊎ (p ≡ Loaded) ⊎ (p ≡ Reserved) → n ≡ freeing
+freeing_left p e h o = grind arith
 
-        module _ (h5 : (not (eqb h 0) && leb op #deliver) ≡ false) {p : ℕ} {y : Bool} (e6 : p ≡ phase m t) (f6 : y ≡ allows op p) where
-          allows_is : y ≡ allows op (phase m t)
-          allows_is = f6 ∙ ap (allows op) e6
+-- there item u is in use: it is on the list, and its entry is a record
+pub record Item (l : Layout) (m : State) (t : ℕ) : Type 0 where
+  pub inside : u m t < l.room
+  pub kept : v m t ≤ u m t
+  pub named : 1 ≤ entry m t (u m t)
 
-          pub out_6 : y ≡ false → outcome 6 0 I ≡ after S I (answer S m s)
-          out_6 g = refusing S I (answer_6 S m t op a b c row_2 row_3 (sym e4 ∙ h4) (sym handling_is ∙ h5) (sym allows_is ∙ g))
-
-          pub out_late : {o : Outcome} → y ≡ true → o ≡ after S I (checked (late S m t op a b c) (perform S m s)) → o ≡ after S I (answer S m s)
-          out_late g q = says S I (answer_late S m t op a b c row_2 row_3 (sym e4 ∙ h4) (sym handling_is ∙ h5) (sym allows_is ∙ g)) q
-
-          pub enters : y ≡ true → Entered S m s
-          enters g = entered S m t op a b c h2 h3 (sym e4 ∙ h4) (sym allows_is ∙ g)
-
-pub phase_known : (S : Settings) (m : State) (t : ℕ) {p : ℕ} → Sound S m → t < S.threads → p ≡ phase m t → p < phases
-phase_known S m t s h e = rw e (s.threads t h).line.known
-
--- what an operation asks of an undamaged state, by its number
-module _ (S : Settings) (m : State) {s : Step} (d : Sound S m) (n : Entered S m s) where
-  abbrev line : Thread S m s.thread
-  line = d.threads s.thread n.thread
-
-  pub reserving : s.op ≡ #reserve → u m s.thread < S.slots
-  reserving e = (line.line.slot (omega (arith, n.reserves e)) (omega (arith, n.reserves e))).0
-
-  pub checking : s.op ≡ #check → (u m s.thread < S.slots) × (v m s.thread < S.cells)
-  checking e =
-      let q = line.line.slot (omega (arith, n.checks e)) (omega (arith, n.checks e)) in
-      (q.0, q.1)
-
-  pub retiring : (l : ℕ) → l ≡ room S → list_length m s.thread ≤ l
-  retiring l e = rw e line.length
-
-  pub entries_most : (l : ℕ) → l ≡ room S → (i : ℕ) → i < l → entry m s.thread i ≤ S.records
-  entries_most l e i h = d.entries s.thread i n.thread (rw e at h)
+pub item_there : {l : Layout} {m : State} {t : ℕ} → Thread l.settings m t → phase m t ≡ freeing → Item l m t
+unfolding in_use
+item_there {l} {m} {t} s e =
+    let i = s.line.item e in
+    let h : u m t < room l.settings = omega (arith, s.length) in
+    let q : entry m t (u m t) ≢ 0 =
+    s.used (u m t) h
+    (rw (eq-eqb (phase m t) freeing e, le-leb (u m t) (u m t) (le_refl (u m t)), lt-ltb (u m t) (list_length m t) i.0) (or-true (ltb (u m t) (v m t)))) in
+    record { inside = omega (arith, l.room_is); kept = i.1; named = omega arith }

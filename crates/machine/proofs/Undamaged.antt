@@ -17,7 +17,7 @@ use Rattle.rules.proofs.Limits.{room_slots}
 use Rattle.rules.proofs.Shaped.{Shaped}
 use Rattle.rules.proofs.Sound.{Sound, undamaged_says}
 use Rattle.image.specs.declared.layout.Layout.{Layout}
-use Rattle.image.specs.Fits.{Fits, At}
+use Rattle.image.specs.Stands.{At}
 
 module _ (I : List ℕ) where
   pub whole_1 : (s : Step) {b : Bool} → b ≡ damaged I → b ≡ true → outcome 1 0 I ≡ step I s
@@ -104,8 +104,8 @@ part_inside I t = elim (either (eqb (list_number I t) 0)) [
   | fails h ↦ rw h (omega arith)
 ]
 
-pub room_first : (l : Layout) {I : List ℕ} → Fits l I → 0 < l.room
-room_first l f = omega (arith, f.fine.room, room_slots f.fine.limits)
+pub room_first : (l : Layout) → 0 < l.room
+room_first l = omega (arith, l.room_is, room_slots l.limits)
 
 -- a part that stands where the list question says
 pub part_is : (I : List ℕ) (t : ℕ) {p k : ℕ} → p ≡ list_from I t → k ≡ list_many I t → take ((p + k) - p) (drop p I) ≡ list_part I t

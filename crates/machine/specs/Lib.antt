@@ -1,2 +1,5 @@
--- What the contracts of this crate cite besides the rules and the layout.
+-- What the contracts of this crate cite besides the rules and the image.
+pub mod Admitted
+pub mod Answers
+pub mod Operands
 pub mod Rows

@@ -1,71 +1,79 @@
 // Advance, phase by phase.
-ghost use Rattle.std.specs.Prelude.{◌≡◌, ℕ, ◌+◌, ◌*◌, ◌/◌, ◌<◌, ◌≤◌, cond, [], ◌∷◌, length};
+ghost use Rattle.std.specs.Prelude.{◌≡◌, ℕ, ◌+◌, ◌*◌, ◌<◌, ◌≤◌, length};
 ghost use Rattle.rules.specs.Settings as of;
-ghost use Rattle.rules.specs.State.{phase, u, v, list_length, entry};
-ghost use Rattle.rules.specs.Image.{view, write_all, outcome, after};
+ghost use Rattle.rules.specs.State.{phase, u, v, entry};
 ghost use Rattle.rules.specs.Advance as rule;
-ghost use Rattle.rules.specs.Replies.{number_of, value_of};
+ghost use Rattle.rules.specs.Replies.{phase_number};
 ghost use Rattle.rules.proofs.Sound.{Thread};
-ghost use Rattle.image.specs.Fits.{Fits};
+ghost use Rattle.image.specs.Views.{seen, state, Wrote};
+ghost use Rattle.machine.specs.Answers.{Answered};
 ghost use Rattle.machine.specs.Rows.{row_of};
 
-use super::operations::{PENDING, PHASE, U, V};
-use super::{places, words};
-use image::layout;
-use image::layout::Layout;
-use rules::Reply;
+use super::searches;
+use image::view::{Image, View};
+use rules::{Kind, Phase, Reply};
 
-// After item i of n: to the next item, or to phase p.
-fn onward(image: &mut [u32], l: Layout, t: usize, i: usize, n: usize, p: u32)
-    requires { (Fits l image.old) × (t < l.settings.threads) × (i < 4294967295) }
-    ensures { image.new ≡ write_all l.settings image.old (rule.onward t i n p) }
+// A phase as a word.
+fn word_of(phase: Phase) -> u32
+    ensures { result ≡ phase_number phase }
+{
+    phase as u32
+}
+
+// After item i of n: to the next item, or to the next phase.
+fn onward(image: &mut Image<'_>, t: usize, i: usize, n: usize, next: Phase)
+    requires { (t < image.old.layout.settings.threads) × (i < 4294967295) }
+    ensures { Wrote image.old image.new (rule.onward t i n (phase_number next)) }
 {
     if i + 1 == n {
-        words::set_thread(image, l, t, U, 0);
-        words::set_thread(image, l, t, PHASE, p);
+        image.set(Kind::U, t, 0, 0);
+        image.set(Kind::Phase, t, 0, word_of(next));
     } else {
-        words::set_thread(image, l, t, U, (i + 1) as u32);
+        image.set(Kind::U, t, 0, (i + 1) as u32);
     }
 }
 
 // Phase 3.
-fn collect(image: &mut [u32], l: Layout, t: usize) -> Reply
-    requires { (Fits l image.old) × (t < l.settings.threads) × (u (view l.settings image.old) t < l.settings.threads) }
-    ensures { outcome (number_of result) (value_of result) image.new ≡ after l.settings image.old (rule.collect l.settings (view l.settings image.old) t) }
+fn collect(image: &mut Image<'_>, t: usize) -> Reply
+    requires { (t < image.old.layout.settings.threads) × (u (state image.old) t < image.old.layout.settings.threads) }
+    ensures { Answered image.old image.new result (rule.collect image.old.layout.settings (state image.old) t) }
 {
-    let i = words::thread(image, l, t, U) as usize;
-    let threads = l.settings.threads;
-    let count = words::count(image, l, i);
-    words::set_collected(image, l, t, i, count);
-    onward(image, l, t, i, threads, 4);
-    Reply::Done(1)
+    let view = image.view();
+    let threads = view.layout.settings.threads;
+    let i = view.word(Kind::U, t, 0) as usize;
+    let count = view.word(Kind::Count, i, 0);
+    image.set(Kind::Collected, t, i, count);
+    onward(image, t, i, threads, Phase::Pinging);
+    Ok(1)
 }
 
 // Phase 4.
-fn ping(image: &mut [u32], l: Layout, t: usize) -> Reply
-    requires { (Fits l image.old) × (t < l.settings.threads) × (u (view l.settings image.old) t < l.settings.threads) }
-    ensures { outcome (number_of result) (value_of result) image.new ≡ after l.settings image.old (rule.ping l.settings (view l.settings image.old) t) }
+fn ping(image: &mut Image<'_>, t: usize) -> Reply
+    requires { (t < image.old.layout.settings.threads) × (u (state image.old) t < image.old.layout.settings.threads) }
+    ensures { Answered image.old image.new result (rule.ping image.old.layout.settings (state image.old) t) }
 {
-    let i = words::thread(image, l, t, U) as usize;
-    let threads = l.settings.threads;
-    words::set_thread_if(image, l, i != t, i, PENDING, 1);
-    onward(image, l, t, i, threads, 5);
-    Reply::Done(1)
+    let view = image.view();
+    let threads = view.layout.settings.threads;
+    let i = view.word(Kind::U, t, 0) as usize;
+    image.set_if(i != t, Kind::Pending, i, 0, 1);
+    onward(image, t, i, threads, Phase::Waiting);
+    Ok(1)
 }
 
 // Phase 5.
-fn wait(image: &mut [u32], l: Layout, t: usize) -> Reply
-    requires { (Fits l image.old) × (t < l.settings.threads) × (u (view l.settings image.old) t < l.settings.threads) }
-    ensures { outcome (number_of result) (value_of result) image.new ≡ after l.settings image.old (rule.wait l.settings (view l.settings image.old) t) }
+fn wait(image: &mut Image<'_>, t: usize) -> Reply
+    requires { (t < image.old.layout.settings.threads) × (u (state image.old) t < image.old.layout.settings.threads) }
+    ensures { Answered image.old image.new result (rule.wait image.old.layout.settings (state image.old) t) }
 {
-    let i = words::thread(image, l, t, U) as usize;
-    let threads = l.settings.threads;
-    let passes = (i == t) | (words::count(image, l, i) != words::collected(image, l, t, i));
+    let view = image.view();
+    let threads = view.layout.settings.threads;
+    let i = view.word(Kind::U, t, 0) as usize;
+    let passes = (i == t) | (view.word(Kind::Count, i, 0) != view.word(Kind::Collected, t, i));
     if passes {
-        onward(image, l, t, i, threads, 6);
-        Reply::Done(1)
+        onward(image, t, i, threads, Phase::Scanning);
+        Ok(1)
     } else {
-        Reply::Done(0)
+        Ok(0)
     }
 }
 
@@ -91,82 +99,80 @@ pub fn row<'a>(
 }
 
 // Slot x of all threads as reclaimer t reads it.
-fn seen(image: &[u32], l: Layout, t: usize, x: usize) -> u32
-    requires { (Fits l image.now) × (t < l.settings.threads) × (x < of.all_slots l.settings) }
-    ensures { result ≡ rule.seen l.settings (view l.settings image.now) t x }
+fn slot_seen(view: &View<'_>, t: usize, x: usize) -> u32
+    requires { x < of.all_slots view.now.layout.settings }
+    ensures { result ≡ rule.seen view.now.layout.settings (seen view.now) t x }
 {
-    let slots = l.settings.slots;
-    let n = places::all_slots(l);
-    let a = layout::start(l, 3) + 1;
-    let b = layout::start(l, 4) + 1;
-    let private = &image[a..a + n];
-    let published = &image[b..b + n];
+    let slots = view.layout.settings.slots;
+    let private = view.section(Kind::Private);
+    let published = view.section(Kind::Published);
     let row = row(private, published, t, x / slots, slots);
     row[x % slots]
 }
 
 // Phase 6.
-fn scan(image: &mut [u32], l: Layout, t: usize) -> Reply
-    requires { (Fits l image.old) × (t < l.settings.threads) × (u (view l.settings image.old) t < of.all_slots l.settings) }
-    ensures { outcome (number_of result) (value_of result) image.new ≡ after l.settings image.old (rule.scan l.settings (view l.settings image.old) t) }
+fn scan(image: &mut Image<'_>, t: usize) -> Reply
+    requires { (t < image.old.layout.settings.threads) × (u (state image.old) t < of.all_slots image.old.layout.settings) }
+    ensures { Answered image.old image.new result (rule.scan image.old.layout.settings (state image.old) t) }
 {
-    let x = words::thread(image, l, t, U) as usize;
-    let n = places::all_slots(l);
-    let record = seen(image, l, t, x);
-    words::set_scanned(image, l, t, x, record);
-    onward(image, l, t, x, n, 7);
-    Reply::Done(1)
+    let view = image.view();
+    let n = view.layout.all_slots();
+    let x = view.word(Kind::U, t, 0) as usize;
+    let record = slot_seen(&view, t, x);
+    image.set(Kind::Scanned, t, x, record);
+    onward(image, t, x, n, Phase::Freeing);
+    Ok(1)
 }
 
 // After entry i of n, k of them kept: to the next entry, or the reclaim ends.
-fn freed_on(image: &mut [u32], l: Layout, t: usize, i: usize, n: usize, k: u32)
-    requires { (Fits l image.old) × (t < l.settings.threads) × (i < 4294967295) }
-    ensures { image.new ≡ write_all l.settings image.old (rule.freed_on t i n k) }
+fn freed_on(image: &mut Image<'_>, t: usize, i: usize, n: usize, k: u32)
+    requires { (t < image.old.layout.settings.threads) × (i < 4294967295) }
+    ensures { Wrote image.old image.new (rule.freed_on t i n k) }
 {
     if i + 1 == n {
-        words::set_thread(image, l, t, U, 0);
-        words::set_thread(image, l, t, V, 0);
-        words::set_thread(image, l, t, PHASE, 0);
-        words::set_list_length(image, l, t, k);
+        image.set(Kind::U, t, 0, 0);
+        image.set(Kind::V, t, 0, 0);
+        image.set(Kind::Phase, t, 0, Phase::Idle as u32);
+        image.set(Kind::Length, t, 0, k);
     } else {
-        words::set_thread(image, l, t, U, (i + 1) as u32);
-        words::set_thread(image, l, t, V, k);
+        image.set(Kind::U, t, 0, (i + 1) as u32);
+        image.set(Kind::V, t, 0, k);
     }
 }
 
 // Phase 7.
-fn free(image: &mut [u32], l: Layout, t: usize) -> Reply
-    requires { (Fits l image.old) × (t < l.settings.threads) × (u (view l.settings image.old) t < l.room) × (v (view l.settings image.old) t ≤ u (view l.settings image.old) t) × (1 ≤ entry (view l.settings image.old) t (u (view l.settings image.old) t)) × (entry (view l.settings image.old) t (u (view l.settings image.old) t) ≤ l.settings.records) }
-    ensures { outcome (number_of result) (value_of result) image.new ≡ after l.settings image.old (rule.free l.settings (view l.settings image.old) t) }
+fn free(image: &mut Image<'_>, t: usize) -> Reply
+    requires { (t < image.old.layout.settings.threads) × (u (state image.old) t < image.old.layout.room) × (v (state image.old) t ≤ u (state image.old) t) × (1 ≤ entry (state image.old) t (u (state image.old) t)) × (entry (state image.old) t (u (state image.old) t) ≤ image.old.layout.settings.records) }
+    ensures { Answered image.old image.new result (rule.free image.old.layout.settings (state image.old) t) }
 {
-    let i = words::thread(image, l, t, U) as usize;
-    let k = words::thread(image, l, t, V);
-    let n = words::list_length(image, l, t) as usize;
-    let p = words::entry(image, l, t, i);
-    if words::noted(image, l, t, p) {
-        words::set_entry(image, l, t, i, 0);
-        words::set_entry(image, l, t, k as usize, p);
-        freed_on(image, l, t, i, n, k + 1);
-        Reply::Done(2)
+    let view = image.view();
+    let i = view.word(Kind::U, t, 0) as usize;
+    let k = view.word(Kind::V, t, 0);
+    let n = view.word(Kind::Length, t, 0) as usize;
+    let p = view.word(Kind::Entry, t, i);
+    if searches::noted(&view, t, p) {
+        image.set(Kind::Entry, t, i, 0);
+        image.set(Kind::Entry, t, k as usize, p);
+        freed_on(image, t, i, n, k + 1);
+        Ok(2)
     } else {
-        words::set_entry(image, l, t, i, 0);
-        words::set_status(image, l, p as usize, 0);
-        freed_on(image, l, t, i, n, k);
-        Reply::Done(3)
+        image.set(Kind::Entry, t, i, 0);
+        image.set(Kind::Status, p as usize, 0, 0);
+        freed_on(image, t, i, n, k);
+        Ok(3)
     }
 }
 
-// 8
-pub fn advance(image: &mut [u32], l: Layout, t: usize) -> Reply
-    requires { (Fits l image.old) × (t < l.settings.threads) × (3 ≤ phase (view l.settings image.old) t) × (Thread l.settings (view l.settings image.old) t) × ((i : ℕ) → i < l.room → entry (view l.settings image.old) t i ≤ l.settings.records) }
-    ensures { outcome (number_of result) (value_of result) image.new ≡ after l.settings image.old (rule.advance l.settings (view l.settings image.old) t) }
+// 8, in the thread's phase, which is one from 3 on
+pub fn advance(image: &mut Image<'_>, t: usize, at: Phase) -> Reply
+    requires { (t < image.old.layout.settings.threads) × (phase_number at ≡ phase (state image.old) t) × (3 ≤ phase (state image.old) t) × (Thread image.old.layout.settings (state image.old) t) × ((i : ℕ) → i < image.old.layout.room → entry (state image.old) t i ≤ image.old.layout.settings.records) }
+    ensures { Answered image.old image.new result (rule.advance image.old.layout.settings (state image.old) t) }
 {
-    let phase = words::thread(image, l, t, PHASE);
-    match phase {
-        3 => collect(image, l, t),
-        4 => ping(image, l, t),
-        5 => wait(image, l, t),
-        6 => scan(image, l, t),
-        _ => free(image, l, t),
+    match at {
+        Phase::Collecting => collect(image, t),
+        Phase::Pinging => ping(image, t),
+        Phase::Waiting => wait(image, t),
+        Phase::Scanning => scan(image, t),
+        Phase::Freeing | Phase::Idle | Phase::Loaded | Phase::Reserved => free(image, t),
     }
 }

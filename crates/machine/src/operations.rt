@@ -1,242 +1,228 @@
 // The operations but advance. Each meets the rows of the table of replies that are its own, then does what its rule says.
-ghost use Rattle.std.specs.Prelude.{◌≡◌, ℕ, ◌+◌, ◌*◌, ◌<◌, ◌≤◌, false, not, ◌&&◌, ◌||◌, [], ◌∷◌, if◌then◌else◌, ◌==◌};
+ghost use Rattle.std.specs.Prelude.{◌≡◌, ℕ, ◌+◌, ◌<◌, ◌≤◌, false, not, ◌&&◌, ◌||◌, [], ◌∷◌, ◌==◌};
 ghost use Rattle.rules.specs.Settings as of;
 ghost use Rattle.rules.specs.State.{u, v, list_length, held, handler, pending, status, when, phase≔, u≔};
 ghost use Rattle.rules.specs.Phases.{collecting};
-ghost use Rattle.rules.specs.Image.{view, write_all, outcome, after};
 ghost use Rattle.rules.specs.Operations as rule;
-ghost use Rattle.rules.specs.Replies.{number_of, value_of, ◌if◌};
+ghost use Rattle.rules.specs.Replies.{◌if◌};
 ghost use Rattle.rules.proofs.Checked.{checked};
-ghost use Rattle.image.specs.Fits.{Fits};
+ghost use Rattle.image.specs.Views.{seen, state, Wrote};
+ghost use Rattle.machine.specs.Answers.{Answered};
 
-use super::words;
+use super::searches;
 use image::layout::Layout;
-use rules::{Reply, Why};
+use image::view::{Image, View};
+use rules::{Kind, Phase, Reply, Why};
 
-pub const PHASE: usize = 0;
-
-pub const U: usize = 1;
-
-pub const V: usize = 2;
-
-pub const W: usize = 3;
-
-pub const PENDING: usize = 4;
-
-pub const HANDLER: usize = 5;
-
-pub const PRIVATE: usize = 0;
-
-pub const PUBLISHED: usize = 1;
-
-pub const HELD: usize = 2;
-
-fn bit(b: bool) -> u32
-    ensures { result ≡ (if b then 1 else 0) }
+// Slot s of thread t, counted over all threads.
+#[inline]
+fn slot_of(layout: Layout, t: usize, s: usize) -> usize
+    requires { (t < layout.settings.threads) × (s < layout.settings.slots) }
+    ensures { (result ≡ of.slot layout.settings t s) × (result < of.all_slots layout.settings) }
 {
-    if b { 1 } else { 0 }
+    t * layout.settings.slots + s
 }
 
 // 0
-pub fn allocate(image: &mut [u32], l: Layout) -> Reply
-    requires { Fits l image.old }
-    ensures { outcome (number_of result) (value_of result) image.new ≡ after l.settings image.old (checked ((7 if rule.lowest_free (view l.settings image.old) l.settings.records == 0) ∷ []) (rule.allocate l.settings (view l.settings image.old))) }
+pub fn allocate(image: &mut Image<'_>) -> Reply
+    ensures { Answered image.old image.new result (checked ((7 if rule.lowest_free (state image.old) image.old.layout.settings.records == 0) ∷ []) (rule.allocate image.old.layout.settings (state image.old))) }
 {
-    let p = words::lowest_free(image, l);
+    let p = searches::lowest_free(&image.view());
     if p == 0 {
-        return Reply::Refused(Why::NoneFree);
+        return Err(Why::NoneFree);
     }
-    words::set_status(image, l, p, 1);
-    Reply::Done(p as u32)
+    image.set(Kind::Status, p, 0, 1);
+    Ok(p as u32)
 }
 
 // Neither 0 nor live.
-fn dead(image: &[u32], l: Layout, c: u32) -> bool
-    requires { (Fits l image.now) × (c ≤ l.settings.records) }
-    ensures { result ≡ (not (c == 0) && not (status (view l.settings image.now) c == 1)) }
+fn dead(view: &View<'_>, c: u32) -> bool
+    requires { c ≤ view.now.layout.settings.records }
+    ensures { result ≡ (not (c == 0) && not (status (seen view.now) c == 1)) }
 {
-    if c == 0 {
-        false
-    } else {
-        words::status(image, l, c as usize) != 1
-    }
+    c != 0 && view.word(Kind::Status, c as usize, 0) != 1
 }
 
 // 1: cell a, expected b, new c
-pub fn swap(image: &mut [u32], l: Layout, a: u32, b: u32, c: u32) -> Reply
-    requires { (Fits l image.old) × (a < l.settings.cells) × (c ≤ l.settings.records) }
-    ensures { outcome (number_of result) (value_of result) image.new ≡ after l.settings image.old (checked ((8 if not (c == 0) && not (status (view l.settings image.old) c == 1) || false) ∷ []) (rule.swap (view l.settings image.old) a b c)) }
+pub fn swap(image: &mut Image<'_>, a: u32, b: u32, c: u32) -> Reply
+    requires { (a < image.old.layout.settings.cells) × (c ≤ image.old.layout.settings.records) }
+    ensures { Answered image.old image.new result (checked ((8 if not (c == 0) && not (status (state image.old) c == 1) || false) ∷ []) (rule.swap (state image.old) a b c)) }
 {
-    if dead(image, l, c) {
-        return Reply::Refused(Why::NotLive);
+    let view = image.view();
+    if dead(&view, c) {
+        return Err(Why::NotLive);
     }
-    let equal = words::cell(image, l, a as usize) == b;
-    words::set_cell_if(image, l, equal, a as usize, c);
-    Reply::Done(bit(equal))
+    let equal = view.word(Kind::Cell, a as usize, 0) == b;
+    image.set_if(equal, Kind::Cell, a as usize, 0, c);
+    Ok(u32::from(equal))
 }
 
 // 2: slot a, cell b
-pub fn load(image: &mut [u32], l: Layout, t: usize, a: u32, b: u32) -> Reply
-    requires { (Fits l image.old) × (t < l.settings.threads) × (b < l.settings.cells) }
-    ensures { outcome (number_of result) (value_of result) image.new ≡ after l.settings image.old (rule.load (view l.settings image.old) t a b) }
+pub fn load(image: &mut Image<'_>, t: usize, a: u32, b: u32) -> Reply
+    requires { (t < image.old.layout.settings.threads) × (b < image.old.layout.settings.cells) }
+    ensures { Answered image.old image.new result (rule.load (state image.old) t a b) }
 {
-    let record = words::cell(image, l, b as usize);
-    words::set_thread(image, l, t, PHASE, 1);
-    words::set_thread(image, l, t, U, a);
-    words::set_thread(image, l, t, V, b);
-    words::set_thread(image, l, t, W, record);
-    Reply::Done(record)
+    let record = image.view().word(Kind::Cell, b as usize, 0);
+    image.set(Kind::Phase, t, 0, Phase::Loaded as u32);
+    image.set(Kind::U, t, 0, a);
+    image.set(Kind::V, t, 0, b);
+    image.set(Kind::W, t, 0, record);
+    Ok(record)
 }
 
 // 3
-pub fn reserve(image: &mut [u32], l: Layout, t: usize) -> Reply
-    requires { (Fits l image.old) × (t < l.settings.threads) × (u (view l.settings image.old) t < l.settings.slots) }
-    ensures { outcome (number_of result) (value_of result) image.new ≡ after l.settings image.old (rule.reserve l.settings (view l.settings image.old) t) }
+pub fn reserve(image: &mut Image<'_>, t: usize) -> Reply
+    requires { (t < image.old.layout.settings.threads) × (u (state image.old) t < image.old.layout.settings.slots) }
+    ensures { Answered image.old image.new result (rule.reserve image.old.layout.settings (state image.old) t) }
 {
-    let slot = words::thread(image, l, t, U) as usize;
-    let record = words::thread(image, l, t, W);
-    words::set_slot(image, l, PRIVATE, t, slot, record);
-    words::set_slot(image, l, HELD, t, slot, 0);
-    words::set_thread(image, l, t, PHASE, 2);
-    Reply::Done(record)
+    let view = image.view();
+    let slot = slot_of(view.layout, t, view.word(Kind::U, t, 0) as usize);
+    let record = view.word(Kind::W, t, 0);
+    image.set(Kind::Private, slot, 0, record);
+    image.set(Kind::Held, slot, 0, 0);
+    image.set(Kind::Phase, t, 0, Phase::Reserved as u32);
+    Ok(record)
 }
 
 // Back to phase 0, operands 0.
-fn to_idle(image: &mut [u32], l: Layout, t: usize)
-    requires { (Fits l image.old) × (t < l.settings.threads) }
-    ensures { image.new ≡ write_all l.settings image.old (rule.to_idle t) }
+fn to_idle(image: &mut Image<'_>, t: usize)
+    requires { t < image.old.layout.settings.threads }
+    ensures { Wrote image.old image.new (rule.to_idle t) }
 {
-    words::set_thread(image, l, t, PHASE, 0);
-    words::set_thread(image, l, t, U, 0);
-    words::set_thread(image, l, t, V, 0);
-    words::set_thread(image, l, t, W, 0);
+    image.set(Kind::Phase, t, 0, Phase::Idle as u32);
+    image.set(Kind::U, t, 0, 0);
+    image.set(Kind::V, t, 0, 0);
+    image.set(Kind::W, t, 0, 0);
 }
 
 // 4
-pub fn check(image: &mut [u32], l: Layout, t: usize) -> Reply
-    requires { (Fits l image.old) × (t < l.settings.threads) × (u (view l.settings image.old) t < l.settings.slots) × (v (view l.settings image.old) t < l.settings.cells) }
-    ensures { outcome (number_of result) (value_of result) image.new ≡ after l.settings image.old (rule.check l.settings (view l.settings image.old) t) }
+pub fn check(image: &mut Image<'_>, t: usize) -> Reply
+    requires { (t < image.old.layout.settings.threads) × (u (state image.old) t < image.old.layout.settings.slots) × (v (state image.old) t < image.old.layout.settings.cells) }
+    ensures { Answered image.old image.new result (rule.check image.old.layout.settings (state image.old) t) }
 {
-    let slot = words::thread(image, l, t, U) as usize;
-    let cell = words::thread(image, l, t, V) as usize;
-    let record = words::thread(image, l, t, W);
-    let equal = words::cell(image, l, cell) == record;
-    words::set_slot_if(image, l, equal & (record != 0), HELD, t, slot, 1);
-    to_idle(image, l, t);
-    Reply::Done(bit(equal))
+    let view = image.view();
+    let slot = slot_of(view.layout, t, view.word(Kind::U, t, 0) as usize);
+    let cell = view.word(Kind::V, t, 0) as usize;
+    let record = view.word(Kind::W, t, 0);
+    let equal = view.word(Kind::Cell, cell, 0) == record;
+    image.set_if(equal & (record != 0), Kind::Held, slot, 0, 1);
+    to_idle(image, t);
+    Ok(u32::from(equal))
 }
 
 // 5: slot a
-pub fn use_slot(image: &[u32], l: Layout, t: usize, a: u32) -> Reply
-    requires { (Fits l image.now) × (t < l.settings.threads) × (a < l.settings.slots) }
-    ensures { outcome (number_of result) (value_of result) image.now ≡ after l.settings image.now (checked ((11 if held (view l.settings image.now) (of.slot l.settings t a) == 0) ∷ []) (rule.use_slot l.settings (view l.settings image.now) t a)) }
+pub fn use_slot(image: &mut Image<'_>, t: usize, a: u32) -> Reply
+    requires { (t < image.old.layout.settings.threads) × (a < image.old.layout.settings.slots) }
+    ensures { Answered image.old image.new result (checked ((11 if held (state image.old) (of.slot image.old.layout.settings t a) == 0) ∷ []) (rule.use_slot image.old.layout.settings (state image.old) t a)) }
 {
-    if words::slot(image, l, HELD, t, a as usize) == 0 {
-        return Reply::Refused(Why::NotHeld);
+    let view = image.view();
+    let slot = slot_of(view.layout, t, a as usize);
+    if view.word(Kind::Held, slot, 0) == 0 {
+        return Err(Why::NotHeld);
     }
-    Reply::Done(words::slot(image, l, PRIVATE, t, a as usize))
+    Ok(view.word(Kind::Private, slot, 0))
 }
 
 // 6: slot a
-pub fn clear(image: &mut [u32], l: Layout, t: usize, a: u32) -> Reply
-    requires { (Fits l image.old) × (t < l.settings.threads) × (a < l.settings.slots) }
-    ensures { outcome (number_of result) (value_of result) image.new ≡ after l.settings image.old (rule.clear l.settings t a) }
+pub fn clear(image: &mut Image<'_>, t: usize, a: u32) -> Reply
+    requires { (t < image.old.layout.settings.threads) × (a < image.old.layout.settings.slots) }
+    ensures { Answered image.old image.new result (rule.clear image.old.layout.settings t a) }
 {
-    words::set_slot(image, l, PRIVATE, t, a as usize, 0);
-    words::set_slot(image, l, HELD, t, a as usize, 0);
-    Reply::Done(0)
+    let slot = slot_of(image.layout, t, a as usize);
+    image.set(Kind::Private, slot, 0, 0);
+    image.set(Kind::Held, slot, 0, 0);
+    Ok(0)
 }
 
 // To phase 3, where `on` holds.
-fn begin_if(image: &mut [u32], l: Layout, on: bool, t: usize)
-    requires { (Fits l image.old) × (t < l.settings.threads) }
-    ensures { image.new ≡ write_all l.settings image.old (when on (phase≔ t collecting) ∷ when on (u≔ t 0) ∷ []) }
+fn begin_if(image: &mut Image<'_>, on: bool, t: usize)
+    requires { t < image.old.layout.settings.threads }
+    ensures { Wrote image.old image.new (when on (phase≔ t collecting) ∷ when on (u≔ t 0) ∷ []) }
 {
-    words::set_thread_if(image, l, on, t, PHASE, 3);
-    words::set_thread_if(image, l, on, t, U, 0);
+    image.set_if(on, Kind::Phase, t, 0, Phase::Collecting as u32);
+    image.set_if(on, Kind::U, t, 0, 0);
 }
 
 // Record a, retired, at place n of thread t's list.
-fn append(image: &mut [u32], l: Layout, t: usize, a: u32, n: u32)
-    requires { (Fits l image.old) × (t < l.settings.threads) × (1 ≤ a) × (a ≤ l.settings.records) × (n < l.room) × (n ≡ list_length (view l.settings image.old) t) }
-    ensures { outcome 0 (n + 1) image.new ≡ after l.settings image.old (rule.retire l.settings (view l.settings image.old) t a) }
+fn append(image: &mut Image<'_>, t: usize, a: u32, n: u32)
+    requires { (t < image.old.layout.settings.threads) × (1 ≤ a) × (a ≤ image.old.layout.settings.records) × (n < image.old.layout.room) × (n ≡ list_length (state image.old) t) }
+    ensures { Wrote image.old image.new (rule.retire image.old.layout.settings (state image.old) t a).writes }
 {
-    let threshold = l.settings.threshold;
-    words::set_status(image, l, a as usize, 2);
-    words::set_entry(image, l, t, n as usize, a);
-    words::set_list_length(image, l, t, n + 1);
-    begin_if(image, l, threshold <= n as usize + 1, t);
+    let threshold = image.layout.settings.threshold;
+    image.set(Kind::Status, a as usize, 0, 2);
+    image.set(Kind::Entry, t, n as usize, a);
+    image.set(Kind::Length, t, 0, n + 1);
+    begin_if(image, threshold <= n as usize + 1, t);
 }
 
 // 7: record a
-pub fn retire(image: &mut [u32], l: Layout, t: usize, a: u32) -> Reply
-    requires { (Fits l image.old) × (t < l.settings.threads) × (1 ≤ a) × (a ≤ l.settings.records) × (list_length (view l.settings image.old) t ≤ l.room) }
-    ensures { outcome (number_of result) (value_of result) image.new ≡ after l.settings image.old (checked ((8 if not (status (view l.settings image.old) a == 1)) ∷ (9 if rule.named l.settings (view l.settings image.old) a) ∷ (10 if list_length (view l.settings image.old) t == of.room l.settings) ∷ []) (rule.retire l.settings (view l.settings image.old) t a)) }
+pub fn retire(image: &mut Image<'_>, t: usize, a: u32) -> Reply
+    requires { (t < image.old.layout.settings.threads) × (1 ≤ a) × (a ≤ image.old.layout.settings.records) × (list_length (state image.old) t ≤ image.old.layout.room) }
+    ensures { Answered image.old image.new result (checked ((8 if not (status (state image.old) a == 1)) ∷ (9 if rule.named image.old.layout.settings (state image.old) a) ∷ (10 if list_length (state image.old) t == of.room image.old.layout.settings) ∷ []) (rule.retire image.old.layout.settings (state image.old) t a)) }
 {
-    if words::status(image, l, a as usize) != 1 {
-        return Reply::Refused(Why::NotLive);
+    let view = image.view();
+    if view.word(Kind::Status, a as usize, 0) != 1 {
+        return Err(Why::NotLive);
     }
-    if words::named(image, l, a) {
-        return Reply::Refused(Why::CellNames);
+    if searches::named(&view, a) {
+        return Err(Why::CellNames);
     }
-    let n = words::list_length(image, l, t);
-    let room = l.room;
-    if n as usize == room {
-        return Reply::Refused(Why::ListFull);
+    let n = view.word(Kind::Length, t, 0);
+    if n as usize == view.layout.room {
+        return Err(Why::ListFull);
     }
-    append(image, l, t, a, n);
-    Reply::Done(n + 1)
+    append(image, t, a, n);
+    Ok(n + 1)
 }
 
 // 9
-pub fn deliver(image: &mut [u32], l: Layout, t: usize) -> Reply
-    requires { (Fits l image.old) × (t < l.settings.threads) }
-    ensures { outcome (number_of result) (value_of result) image.new ≡ after l.settings image.old (checked ((6 if pending (view l.settings image.old) t == 0 || false) ∷ []) (rule.deliver t)) }
+pub fn deliver(image: &mut Image<'_>, t: usize) -> Reply
+    requires { t < image.old.layout.settings.threads }
+    ensures { Answered image.old image.new result (checked ((6 if pending (state image.old) t == 0 || false) ∷ []) (rule.deliver t)) }
 {
-    if words::thread(image, l, t, PENDING) == 0 {
-        return Reply::Refused(Why::PhaseForbids);
+    if image.view().word(Kind::Pending, t, 0) == 0 {
+        return Err(Why::PhaseForbids);
     }
-    words::set_thread(image, l, t, PENDING, 0);
-    words::set_thread(image, l, t, HANDLER, 1);
-    Reply::Done(1)
+    image.set(Kind::Pending, t, 0, 0);
+    image.set(Kind::Handler, t, 0, 1);
+    Ok(1)
 }
 
 // 10 at handler k, from 1 to H: a copy of slot k − 1.
-fn copy(image: &mut [u32], l: Layout, t: usize, k: u32)
-    requires { (Fits l image.old) × (t < l.settings.threads) × (1 ≤ k) × (k ≤ l.settings.slots) × (k ≡ handler (view l.settings image.old) t) }
-    ensures { outcome 0 1 image.new ≡ after l.settings image.old (rule.handle l.settings (view l.settings image.old) t) }
+fn copy(image: &mut Image<'_>, t: usize, k: u32)
+    requires { (t < image.old.layout.settings.threads) × (1 ≤ k) × (k ≤ image.old.layout.settings.slots) × (k ≡ handler (state image.old) t) }
+    ensures { Wrote image.old image.new (rule.handle image.old.layout.settings (state image.old) t).writes }
 {
-    let slot = k as usize - 1;
-    let record = words::slot(image, l, PRIVATE, t, slot);
-    words::set_slot(image, l, PUBLISHED, t, slot, record);
-    words::set_thread(image, l, t, HANDLER, k + 1);
+    let slot = slot_of(image.layout, t, k as usize - 1);
+    let record = image.view().word(Kind::Private, slot, 0);
+    image.set(Kind::Published, slot, 0, record);
+    image.set(Kind::Handler, t, 0, k + 1);
 }
 
 // 10 past the last slot: the count, which after the largest becomes 0.
-fn count(image: &mut [u32], l: Layout, t: usize)
-    requires { (Fits l image.old) × (t < l.settings.threads) × (l.settings.slots < handler (view l.settings image.old) t) }
-    ensures { outcome 0 2 image.new ≡ after l.settings image.old (rule.handle l.settings (view l.settings image.old) t) }
+fn count(image: &mut Image<'_>, t: usize)
+    requires { (t < image.old.layout.settings.threads) × (image.old.layout.settings.slots < handler (state image.old) t) }
+    ensures { Wrote image.old image.new (rule.handle image.old.layout.settings (state image.old) t).writes }
 {
-    let n = words::count(image, l, t);
-    words::set_count(image, l, t, std::num::wrapping_add_u32(n, 1));
-    words::set_thread(image, l, t, HANDLER, 0);
+    let n = image.view().word(Kind::Count, t, 0);
+    image.set(Kind::Count, t, 0, n.wrapping_add(1));
+    image.set(Kind::Handler, t, 0, 0);
 }
 
 // 10
-pub fn handle(image: &mut [u32], l: Layout, t: usize) -> Reply
-    requires { (Fits l image.old) × (t < l.settings.threads) }
-    ensures { outcome (number_of result) (value_of result) image.new ≡ after l.settings image.old (checked ((6 if handler (view l.settings image.old) t == 0) ∷ []) (rule.handle l.settings (view l.settings image.old) t)) }
+pub fn handle(image: &mut Image<'_>, t: usize) -> Reply
+    requires { t < image.old.layout.settings.threads }
+    ensures { Answered image.old image.new result (checked ((6 if handler (state image.old) t == 0) ∷ []) (rule.handle image.old.layout.settings (state image.old) t)) }
 {
-    let k = words::thread(image, l, t, HANDLER);
+    let k = image.view().word(Kind::Handler, t, 0);
     if k == 0 {
-        return Reply::Refused(Why::PhaseForbids);
+        return Err(Why::PhaseForbids);
     }
-    let slots = l.settings.slots;
-    if k as usize <= slots {
-        copy(image, l, t, k);
-        Reply::Done(1)
+    if k as usize <= image.layout.settings.slots {
+        copy(image, t, k);
+        Ok(1)
     } else {
-        count(image, l, t);
-        Reply::Done(2)
+        count(image, t);
+        Ok(2)
     }
 }

@@ -1,11 +1,12 @@
 // The refusals 2 to 6 of the table of replies: which operands and which phases an operation takes.
-ghost use Rattle.std.specs.Prelude.{◌≡◌, ℕ, ◌+◌, ◌<◌, ◌≤◌, not, ◌&&◌, ◌||◌, [], slice_index_or};
+ghost use Rattle.std.specs.Prelude.{◌≡◌, ℕ, ◌<◌, slice_index};
 ghost use Rattle.rules.specs.Phases as table;
-ghost use Rattle.rules.specs.Replies.{limit, operands, not_listed, step_of};
-ghost use Rattle.rules.proofs.Limits.{Limits};
+ghost use Rattle.rules.specs.Replies.{op_number, phase_number};
 ghost use Rattle.rules.proofs.Refused.{operand_wrong};
+ghost use Rattle.machine.specs.Operands.{operand_limit};
 
-use rules::Settings;
+use image::layout::Layout;
+use rules::{Operation, Phase, Step};
 
 // Which phases allow each operation: a row an operation, a column a phase.
 const ALLOWED: [[bool; 8]; 11] = [
@@ -22,56 +23,55 @@ const ALLOWED: [[bool; 8]; 11] = [
     [true, true, true, true, true, true, true, true],
 ];
 
-pub fn allowed(op: usize, phase: usize) -> bool
-    requires { (op < table.operations) × (phase < table.phases) }
-    ensures { result ≡ table.allows op phase }
+// The row of an operation, and the column of a phase.
+fn row_of(op: Operation) -> usize
+    ensures { result ≡ op_number op }
 {
-    ALLOWED[op][phase]
+    op as usize
 }
 
-// What the first, the second and the third operand must be below.
-fn limit_a(s: Settings, op: u32) -> usize
-    requires { (Limits s) × (op < table.operations) }
-    ensures { result ≡ limit s (slice_index_or (slice_index_or operands op []) 0 not_listed) }
+fn column_of(phase: Phase) -> usize
+    ensures { result ≡ phase_number phase }
 {
-    match op {
-        1 => s.cells,
-        2 => s.slots,
-        5 => s.slots,
-        6 => s.slots,
-        7 => s.records + 1,
-        _ => 1,
-    }
+    phase as usize
 }
 
-fn limit_b(s: Settings, op: u32) -> usize
-    requires { (Limits s) × (op < table.operations) }
-    ensures { result ≡ limit s (slice_index_or (slice_index_or operands op []) 1 not_listed) }
+// The phase allows the operation.
+pub fn allowed(op: Operation, phase: Phase) -> bool
+    ensures { result ≡ table.allows (op_number op) (phase_number phase) }
 {
-    match op {
-        1 => s.records + 1,
-        2 => s.cells,
-        _ => 1,
-    }
+    ALLOWED[row_of(op)][column_of(phase)]
 }
 
-fn limit_c(s: Settings, op: u32) -> usize
-    requires { (Limits s) × (op < table.operations) }
-    ensures { result ≡ limit s (slice_index_or (slice_index_or operands op []) 2 not_listed) }
+// What the first, the second and the third operand must be below: one that isn't listed must be 0.
+fn limits(layout: Layout, op: Operation) -> [usize; 3]
+    ensures first { slice_index result 0 ≡ operand_limit layout.settings (op_number op) 0 }
+    ensures second { slice_index result 1 ≡ operand_limit layout.settings (op_number op) 1 }
+    ensures third { slice_index result 2 ≡ operand_limit layout.settings (op_number op) 2 }
 {
+    let s = layout.settings;
     match op {
-        1 => s.records + 1,
-        _ => 1,
+        Operation::Swap => [s.cells, s.records + 1, s.records + 1],
+        Operation::Load => [s.slots, s.cells, 1],
+        Operation::Use | Operation::Clear => [s.slots, 1, 1],
+        Operation::Retire => [s.records + 1, 1, 1],
+        Operation::Allocate
+        | Operation::Reserve
+        | Operation::Check
+        | Operation::Advance
+        | Operation::Deliver
+        | Operation::Handle => [1, 1, 1],
     }
 }
 
 // An operand is beyond its limit, one that isn't listed isn't 0, or it is a retire of 0.
-pub fn wrong_operand(s: Settings, thread: u32, op: u32, a: u32, b: u32, c: u32) -> bool
-    requires { (Limits s) × (op < table.operations) }
-    ensures { result ≡ operand_wrong s (step_of thread op a b c) }
+pub fn wrong_operand(layout: Layout, op: Operation, step: Step) -> bool
+    requires { op_number op ≡ step.op }
+    ensures { result ≡ operand_wrong layout.settings step }
 {
-    let fit = ((a as usize) < limit_a(s, op))
-        & ((b as usize) < limit_b(s, op))
-        & ((c as usize) < limit_c(s, op));
-    !fit | (op == 7) & (a == 0)
+    let [first, second, third] = limits(layout, op);
+    let fit = ((step.a as usize) < first)
+        & ((step.b as usize) < second)
+        & ((step.c as usize) < third);
+    !fit | (op == Operation::Retire) & (step.a == 0)
 }

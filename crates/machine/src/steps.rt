@@ -1,60 +1,67 @@
 // A step on an image that is known to be undamaged.
-ghost use Rattle.std.specs.Prelude.{◌≡◌, ℕ, ◌<◌, ◌≤◌};
-ghost use Rattle.rules.specs.Image.{view, outcome, after};
-ghost use Rattle.rules.specs.Replies.{number_of, value_of, step_of};
+ghost use Rattle.std.specs.Prelude.{◌≡◌, MatchResult};
+ghost use Rattle.rules.specs.State.{refused};
+ghost use Rattle.rules.specs.Replies.{op_number, why_number};
 ghost use Rattle.rules.specs.Step as rule;
 ghost use Rattle.rules.proofs.Sound.{Sound};
-ghost use Rattle.rules.proofs.Checked.{checked, late, Entered};
-ghost use Rattle.image.specs.Fits.{Fits};
+ghost use Rattle.image.specs.Views.{seen, state};
+ghost use Rattle.machine.specs.Answers.{Answered};
+ghost use Rattle.machine.specs.Admitted.{Admitted};
 
-use super::operations::{HANDLER, PHASE};
-use super::{advance, operations, refusals, words};
-use image::layout::Layout;
-use rules::{Reply, Why};
+use super::{advance, operations, refusals};
+use image::view::{Image, View};
+use rules::{Kind, Operation, Phase, Reply, Step, Why};
 
-// The operation, where the refusals 2 to 5 and its phase are past.
-fn perform(image: &mut [u32], l: Layout, t: usize, op: u32, a: u32, b: u32, c: u32) -> Reply
-    requires { (Fits l image.old) × (Sound l.settings (view l.settings image.old)) × (Entered l.settings (view l.settings image.old) (step_of t op a b c)) }
-    ensures { outcome (number_of result) (value_of result) image.new ≡ after l.settings image.old (checked (late l.settings (view l.settings image.old) t op a b c) (rule.perform l.settings (view l.settings image.old) (step_of t op a b c))) }
+// The operation, past the rows of the table that belong to none.
+fn perform(image: &mut Image<'_>, op: Operation, at: Phase, step: Step) -> Reply
+    requires { (op_number op ≡ step.op) × (Sound image.old.layout.settings (state image.old)) × (Admitted image.old.layout.settings (state image.old) step at) }
+    ensures { Answered image.old image.new result (rule.answer image.old.layout.settings (state image.old) step) }
 {
+    let t = step.thread as usize;
     match op {
-        0 => operations::allocate(image, l),
-        1 => operations::swap(image, l, a, b, c),
-        2 => operations::load(image, l, t, a, b),
-        3 => operations::reserve(image, l, t),
-        4 => operations::check(image, l, t),
-        5 => operations::use_slot(image, l, t, a),
-        6 => operations::clear(image, l, t, a),
-        7 => operations::retire(image, l, t, a),
-        8 => advance::advance(image, l, t),
-        9 => operations::deliver(image, l, t),
-        _ => operations::handle(image, l, t),
+        Operation::Allocate => operations::allocate(image),
+        Operation::Swap => operations::swap(image, step.a, step.b, step.c),
+        Operation::Load => operations::load(image, t, step.a, step.b),
+        Operation::Reserve => operations::reserve(image, t),
+        Operation::Check => operations::check(image, t),
+        Operation::Use => operations::use_slot(image, t, step.a),
+        Operation::Clear => operations::clear(image, t, step.a),
+        Operation::Retire => operations::retire(image, t, step.a),
+        Operation::Advance => advance::advance(image, t, at),
+        Operation::Deliver => operations::deliver(image, t),
+        Operation::Handle => operations::handle(image, t),
+    }
+}
+
+// The rows 3 to 6 of the table of replies: which of them refuses the step, or the thread's phase.
+fn admit(view: &View<'_>, op: Operation, step: Step) -> Result<Phase, Why>
+    requires { (op_number op ≡ step.op) × (Sound view.now.layout.settings (seen view.now)) }
+    ensures { MatchResult result (λ at. Admitted view.now.layout.settings (seen view.now) step at) (λ why. rule.answer view.now.layout.settings (seen view.now) step ≡ refused (why_number why)) }
+{
+    let t = step.thread as usize;
+    if view.layout.settings.threads <= t {
+        return Err(Why::NoSuchThread);
+    }
+    if refusals::wrong_operand(view.layout, op, step) {
+        return Err(Why::OperandBeyond);
+    }
+    if (view.word(Kind::Handler, t, 0) != 0) & (op != Operation::Handle) {
+        return Err(Why::HandlerRunning);
+    }
+    let at = Phase::try_from(view.word(Kind::Phase, t, 0))?;
+    if refusals::allowed(op, at) {
+        Ok(at)
+    } else {
+        Err(Why::PhaseForbids)
     }
 }
 
 // A step, number 1 apart.
-pub fn step_on(image: &mut [u32], l: Layout, thread: u32, op: u32, a: u32, b: u32, c: u32) -> Reply
-    requires { (Fits l image.old) × (Sound l.settings (view l.settings image.old)) }
-    ensures { outcome (number_of result) (value_of result) image.new ≡ after l.settings image.old (rule.answer l.settings (view l.settings image.old) (step_of thread op a b c)) }
+pub fn step_on(image: &mut Image<'_>, step: Step) -> Reply
+    requires { Sound image.old.layout.settings (state image.old) }
+    ensures { Answered image.old image.new result (rule.answer image.old.layout.settings (state image.old) step) }
 {
-    if 11 <= op {
-        return Reply::Refused(Why::NoSuchOperation);
-    }
-    let s = l.settings;
-    let t = thread as usize;
-    if s.threads <= t {
-        return Reply::Refused(Why::NoSuchThread);
-    }
-    if refusals::wrong_operand(s, thread, op, a, b, c) {
-        return Reply::Refused(Why::OperandBeyond);
-    }
-    if (words::thread(image, l, t, HANDLER) != 0) & (op <= 9) {
-        return Reply::Refused(Why::HandlerRunning);
-    }
-    let phase = words::thread(image, l, t, PHASE) as usize;
-    if refusals::allowed(op as usize, phase) {
-        perform(image, l, t, op, a, b, c)
-    } else {
-        Reply::Refused(Why::PhaseForbids)
-    }
+    let op = Operation::try_from(step.op)?;
+    let at = admit(&image.view(), op, step)?;
+    perform(image, op, at, step)
 }

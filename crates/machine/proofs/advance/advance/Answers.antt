@@ -1,25 +1,27 @@
--- The phase that is read picks the rule's line, and its phase line gives what the call asks.
-use Rattle.std.proofs.Common.{arith, sym, ◌∙◌}
-use Rattle.machine.proofs.Joins.{item_there}
-use Rattle.rules.proofs.Branches.{advance_collect, advance_free, advance_ping, advance_scan, advance_wait, says}
+-- The phase picks the rule's line, and its phase line gives what the call asks.
+use Rattle.std.proofs.Common.{sym, ap, ◌∙◌}
+use Rattle.rules.specs.Replies.{phase_number}
+use Rattle.machine.proofs.Dispatch.{freeing_left, item_there}
+use Rattle.machine.proofs.Joins.{says}
+use Rattle.rules.proofs.Branches.{advance_collect, advance_free, advance_ping, advance_scan, advance_wait}
 use Rattle.machine.proofs.advance.advance.Goals as goal
 
 pub free-requires : goal.free-requires
 free-requires c =
-    let i = item_there c.requires.0 c.requires.3 (omega (arith, c.requires.2, c.requires.3.line.known, c.thread-phase.ensures)) in
-    (c.requires.0, c.requires.1, i.inside, i.kept, i.named, c.requires.4 _ i.inside)
+    let i = item_there {l = c.args.image.now.layout} c.requires.3 (freeing_left c.args.at c.requires.1 c.requires.2 c.in-Freeing.is) in
+    (c.requires.0, i.inside, i.kept, i.named, c.requires.4 _ i.inside)
 
-pub returns-in-3 : goal.returns-in-3
-returns-in-3 c = says _ _ (advance_collect _ _ _ (sym c.thread-phase.ensures ∙ c.in-3.is)) c.collect.ensures
+pub returns-in-Collecting : goal.returns-in-Collecting
+returns-in-Collecting c = says (advance_collect _ _ _ (sym c.requires.1 ∙ ap phase_number c.in-Collecting.is)) c.collect.ensures
 
-pub returns-in-4 : goal.returns-in-4
-returns-in-4 c = says _ _ (advance_ping _ _ _ (sym c.thread-phase.ensures ∙ c.in-4.is)) c.ping.ensures
+pub returns-in-Pinging : goal.returns-in-Pinging
+returns-in-Pinging c = says (advance_ping _ _ _ (sym c.requires.1 ∙ ap phase_number c.in-Pinging.is)) c.ping.ensures
 
-pub returns-in-5 : goal.returns-in-5
-returns-in-5 c = says _ _ (advance_wait _ _ _ (sym c.thread-phase.ensures ∙ c.in-5.is)) c.wait.ensures
+pub returns-in-Waiting : goal.returns-in-Waiting
+returns-in-Waiting c = says (advance_wait _ _ _ (sym c.requires.1 ∙ ap phase_number c.in-Waiting.is)) c.wait.ensures
 
-pub returns-in-6 : goal.returns-in-6
-returns-in-6 c = says _ _ (advance_scan _ _ _ (sym c.thread-phase.ensures ∙ c.in-6.is)) c.scan.ensures
+pub returns-in-Scanning : goal.returns-in-Scanning
+returns-in-Scanning c = says (advance_scan _ _ _ (sym c.requires.1 ∙ ap phase_number c.in-Scanning.is)) c.scan.ensures
 
-pub returns-in_default : goal.returns-in_default
-returns-in_default c = says _ _ (advance_free _ _ _ (omega (arith, c.requires.2, c.requires.3.line.known, c.thread-phase.ensures))) c.free.ensures
+pub returns-in-Freeing : goal.returns-in-Freeing
+returns-in-Freeing c = says (advance_free _ _ _ (freeing_left c.args.at c.requires.1 c.requires.2 c.in-Freeing.is)) c.free.ensures

@@ -1,21 +1,34 @@
 -- The branches of the rule, by whether the record is noted.
-use Rattle.std.proofs.Common.{rules, arith}
-use Rattle.machine.proofs.Joins.{fits_after, free_frees, free_keeps, room_fits}
+use Rattle.std.proofs.Common.{arith}
+use Rattle.image.proofs.Stands.{room_fits}
+use Rattle.machine.proofs.Joins.{told, free_keeps, free_frees}
 use Rattle.machine.proofs.advance.free.Goals as goal
 
 pub overflow_add-k : goal.overflow_add-k
-overflow_add-k c = omega (arith, c.thread-k.ensures, c.requires.2, c.requires.3, room_fits c.requires.0)
+overflow_add-k c =
+    let v = c.view-view.ensures in
+    omega (arith, told c.args.image.now c.view-view.result v.words v.layout _ _ _ c.word-k.ensures, c.requires.1, c.requires.2, room_fits c.args.image.now.layout)
 
 pub freed_on-requires : goal.freed_on-requires
-freed_on-requires c = (fits_after c.requires.0 (search rules), c.requires.1, omega (arith, c.thread-i.ensures, room_fits c.requires.0))
+freed_on-requires c =
+    let v = c.view-view.ensures in (
+      rw (c.set-then-noted.ensures.layout, c.set.ensures.layout) c.requires.0,
+      omega (arith, told c.args.image.now c.view-view.result v.words v.layout _ _ _ c.word-i.ensures, c.requires.1, room_fits c.args.image.now.layout),
+    )
 
 pub freed_on-requires-else-noted : goal.freed_on-requires-else-noted
-freed_on-requires-else-noted c = (fits_after c.requires.0 (search rules), c.requires.1, omega (arith, c.thread-i.ensures, room_fits c.requires.0))
+freed_on-requires-else-noted c =
+    let v = c.view-view.ensures in (
+      rw (c.set-else-noted-2.ensures.layout, c.set-else-noted.ensures.layout) c.requires.0,
+      omega (arith, told c.args.image.now c.view-view.result v.words v.layout _ _ _ c.word-i.ensures, c.requires.1, room_fits c.args.image.now.layout),
+    )
 
 pub returns-then-noted : goal.returns-then-noted
 returns-then-noted c =
-    free_keeps _ _ _ c.thread-i.ensures c.thread-k.ensures c.list_length-n.ensures c.entry-p.ensures c.noted.ensures c.set_entry.ensures c.if-noted.true c.set_entry-then-noted.ensures c.freed_on.ensures
+    let v = c.view-view.ensures in
+    free_keeps c.args.image.now c.view-view.result v.words v.layout _ c.word-i.ensures c.word-k.ensures c.word-n.ensures c.word-p.ensures c.noted.ensures c.if-noted.true c.set.ensures c.set-then-noted.ensures c.freed_on.ensures
 
 pub returns-else-noted : goal.returns-else-noted
 returns-else-noted c =
-    free_frees _ _ _ c.thread-i.ensures c.thread-k.ensures c.list_length-n.ensures c.entry-p.ensures c.noted.ensures c.set_entry-else-noted.ensures c.if-noted.false c.set_status.ensures c.freed_on-else-noted.ensures
+    let v = c.view-view.ensures in
+    free_frees c.args.image.now c.view-view.result v.words v.layout _ c.word-i.ensures c.word-k.ensures c.word-n.ensures c.word-p.ensures c.noted.ensures c.if-noted.false c.set-else-noted.ensures c.set-else-noted-2.ensures c.freed_on-else-noted.ensures

@@ -1,10 +1,9 @@
 -- The rule's words after the last entry, and after another.
-use Rattle.machine.proofs.Joins.{freed_ends, freed_goes}
+use Rattle.rules.proofs.Branches.{freed_last, freed_next}
 use Rattle.machine.proofs.advance.freed_on.Goals as goal
 
 pub returns-then-i-n : goal.returns-then-i-n
-returns-then-i-n c =
-    freed_ends _ _ _ _ _ _ c.if-i-n.true c.set_thread.ensures c.set_thread-then-i-n.ensures c.set_thread-then-i-n-2.ensures c.set_list_length.ensures
+returns-then-i-n c = record { same = cc; layout = cc; words = rw (freed_last _ _ _ _ _ _ c.if-i-n.true) (cc) }
 
 pub returns-else-i-n : goal.returns-else-i-n
-returns-else-i-n c = freed_goes _ _ _ _ _ _ c.if-i-n.false c.set_thread-else-i-n.ensures c.set_thread-else-i-n-2.ensures
+returns-else-i-n c = record { same = cc; layout = cc; words = rw (freed_next _ _ _ _ _ _ c.if-i-n.false) (cc) }

@@ -4,4 +4,4 @@ use Rattle.machine.proofs.operations.clear.Goals as goal
 
 pub returns : goal.returns
 unfolding clear
-returns c = cc
+returns c = record { same = cc; layout = cc; outcome = cc }

@@ -1,6 +1,9 @@
 -- The branch of the rule past the last slot.
-use Rattle.machine.proofs.Joins.{count_joined}
+use Rattle.image.specs.Views.{state}
+use Rattle.rules.proofs.Branches.{handle_count}
 use Rattle.machine.proofs.operations.count.Goals as goal
 
 pub returns : goal.returns
-returns c = count_joined _ _ _ c.requires.2 c.count-n.ensures c.wrapping_add_u32.ensures.value c.set_count.ensures c.set_thread.ensures
+returns c =
+    let i = c.args.image.now in
+    record { same = cc; layout = cc; words = rw (handle_count i.layout.settings (state i) c.args.t c.requires.1) (cc) }

@@ -4,4 +4,4 @@ use Rattle.machine.proofs.operations.load.Goals as goal
 
 pub returns : goal.returns
 unfolding load
-returns c = cc
+returns c = record { same = cc; layout = cc; outcome = cc }

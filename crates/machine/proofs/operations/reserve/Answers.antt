@@ -4,4 +4,4 @@ use Rattle.machine.proofs.operations.reserve.Goals as goal
 
 pub returns : goal.returns
 unfolding reserve
-returns c = cc
+returns c = record { same = cc; layout = cc; outcome = cc }

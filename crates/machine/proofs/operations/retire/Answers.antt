@@ -1,21 +1,15 @@
 -- The rows of the rule one after another, and then what the append does.
 use Rattle.std.proofs.Common.{arith}
-use Rattle.machine.proofs.Joins.{retire_dead, retire_done, retire_full, retire_named, room_fits}
+use Rattle.image.proofs.Stands.{room_fits}
+use Rattle.machine.proofs.Joins.{retire_joined, told}
 use Rattle.machine.proofs.operations.retire.Goals as goal
 
-pub returns-then-status-ne1 : goal.returns-then-status-ne1
-returns-then-status-ne1 c = retire_dead _ _ _ _ c.status.ensures c.if-status-ne1.true
-
-pub returns-then-named : goal.returns-then-named
-returns-then-named c = retire_named _ _ _ _ c.status.ensures c.if-status-ne1.false c.named.ensures c.if-named.true
-
-pub returns-then-n-room : goal.returns-then-n-room
-returns-then-n-room c =
-    retire_full _ _ _ _ c.status.ensures c.if-status-ne1.false c.named.ensures c.if-named.false c.list_length-n.ensures c.requires.0.fine.room c.if-n-room.true
-
 pub overflow_add-result : goal.overflow_add-result
-overflow_add-result c = omega (arith, c.list_length-n.ensures, c.requires.4, room_fits c.requires.0)
+overflow_add-result c =
+    let v = c.view-view.ensures in
+    omega (arith, told c.args.image.now c.view-view.result v.words v.layout _ _ _ c.word-n.ensures, c.requires.3, room_fits c.args.image.now.layout)
 
 pub returns : goal.returns
 returns c =
-    retire_done _ _ _ _ c.status.ensures c.if-status-ne1.false c.named.ensures c.if-named.false c.list_length-n.ensures c.requires.0.fine.room c.if-n-room.false c.append.ensures
+    let v = c.view-view.ensures in
+    retire_joined c.args.image.now c.view-view.result v.words v.layout c.args.t _ c.word.ensures c.if-word-ne1.false c.named.ensures c.if-named.false c.word-n.ensures c.if-n-view.false c.append.ensures

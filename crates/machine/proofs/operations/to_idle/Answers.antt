@@ -4,4 +4,4 @@ use Rattle.machine.proofs.operations.to_idle.Goals as goal
 
 pub returns : goal.returns
 unfolding to_idle
-returns c = cc
+returns c = record { same = cc; layout = cc; words = cc }

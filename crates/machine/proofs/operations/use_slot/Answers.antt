@@ -1,9 +1,9 @@
--- The row is given where the slot isn't held, and else the slot is read.
-use Rattle.machine.proofs.Joins.{use_done, use_none}
+-- The rule's words, by the operands that it reads.
+use Rattle.std.proofs.Common.{arith}
+use Rattle.std.proofs.lemmas.Grind.{common_steps}
+use Rattle.rules.specs.Operations.{use_slot}
 use Rattle.machine.proofs.operations.use_slot.Goals as goal
 
-pub returns-then-slot-eq0 : goal.returns-then-slot-eq0
-returns-then-slot-eq0 c = use_none _ _ _ _ c.slot.ensures c.if-slot-eq0.true
-
 pub returns : goal.returns
-returns c = use_done _ _ _ _ c.slot.ensures c.if-slot-eq0.false c.slot-2.ensures
+unfolding use_slot
+returns c = grind (arith, common_steps)

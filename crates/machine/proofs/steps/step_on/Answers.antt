@@ -1,34 +1,18 @@
--- The rows 2 to 6 in their order, then the operation.
-use Rattle.machine.proofs.Dispatch.{enters, out_2, out_3, out_4, out_5, out_6, out_late}
+-- The row 2, the rows 3 to 6, or the operation.
+use Rattle.std.proofs.Common.{rules, ◌≡◌, Err}
+use Rattle.image.specs.Views.{state}
+use Rattle.machine.proofs.Dispatch.{out_2, refuses}
 use Rattle.machine.proofs.steps.step_on.Goals as goal
 
-pub returns-then-op-ge11 : goal.returns-then-op-ge11
-returns-then-op-ge11 c = let a = c.args in out_2 a.l.settings a.image.now a.thread a.op a.a a.b a.c c.if-op-ge11.true
+pub returns-in_err-op : goal.returns-in_err-op
+returns-in_err-op c =
+    let i = c.args.image.now in
+    let e : c.from_residual.result ≡ Err c.in_err-op.field-0.0 = search rules in
+    let n = c.in_err-op.ensures in
+    refuses e (rw n.0 (out_2 i.layout.settings (state i) c.args.step n.1))
 
-pub returns-then-s-t : goal.returns-then-s-t
-returns-then-s-t c = let a = c.args in out_3 a.l.settings a.image.now a.thread a.op a.a a.b a.c c.if-op-ge11.false c.if-s-t.true
-
-pub returns-then-wrong_operand : goal.returns-then-wrong_operand
-returns-then-wrong_operand c =
-    let a = c.args in
-    out_4 a.l.settings a.image.now a.thread a.op a.a a.b a.c c.if-op-ge11.false c.if-s-t.false c.wrong_operand.ensures c.if-wrong_operand.true
-
-pub returns-then-thread-op : goal.returns-then-thread-op
-returns-then-thread-op c =
-    let a = c.args in
-    out_5 a.l.settings a.image.now a.thread a.op a.a a.b a.c c.if-op-ge11.false c.if-s-t.false c.wrong_operand.ensures c.if-wrong_operand.false c.thread.ensures c.if-thread-op.true
-
-pub perform-requires : goal.perform-requires
-perform-requires c =
-    let a = c.args in
-    (c.requires.0, c.requires.1, enters a.l.settings a.image.now a.thread a.op a.a a.b a.c c.if-op-ge11.false c.if-s-t.false c.wrong_operand.ensures c.if-wrong_operand.false c.thread.ensures c.if-thread-op.false c.thread-phase.ensures c.allowed.ensures c.if-allowed.true)
-
-pub returns-then-allowed : goal.returns-then-allowed
-returns-then-allowed c =
-    let a = c.args in
-    out_late a.l.settings a.image.now a.thread a.op a.a a.b a.c c.if-op-ge11.false c.if-s-t.false c.wrong_operand.ensures c.if-wrong_operand.false c.thread.ensures c.if-thread-op.false c.thread-phase.ensures c.allowed.ensures c.if-allowed.true c.perform.ensures
-
-pub returns-else-allowed : goal.returns-else-allowed
-returns-else-allowed c =
-    let a = c.args in
-    out_6 a.l.settings a.image.now a.thread a.op a.a a.b a.c c.if-op-ge11.false c.if-s-t.false c.wrong_operand.ensures c.if-wrong_operand.false c.thread.ensures c.if-thread-op.false c.thread-phase.ensures c.allowed.ensures c.if-allowed.false
+pub returns-in_err-at : goal.returns-in_err-at
+returns-in_err-at c =
+    let v = c.view.ensures in
+    let e : c.from_residual-in_err-at.result ≡ Err c.in_err-at.field-0.0 = search rules in
+    refuses e (rw (v.layout, v.words) at c.in_err-at.ensures)

@@ -1,6 +1,5 @@
 -- What the damage check tells the step and the list question, as the code comes to it: b is its verdict, S the layout's settings.
-use Rattle.std.proofs.Common.{◌≡◌, ℕ, ◌+◌, ◌-◌, ◌<◌, ◌≤◌, Bool, true, false, eqb, leb, ◌≢◌, List, length, take, drop, sym, ◌∙◌, arith, ne_eqb, eqb-true, le-leb, leb-false}
-use native.Mathlib.Nat.{add-sub_cancel_left}
+use Rattle.std.proofs.Common.{◌≡◌, ℕ, ◌+◌, ◌-◌, ◌<◌, ◌≤◌, Bool, true, false, eqb, leb, ◌≢◌, List, length, sym, ◌∙◌, arith, ne_eqb, eqb-true, le-leb, leb-false}
 use borrow.Author.Tests.{not-false, lt-leb}
 use Rattle.rules.specs.declared.Settings.{Settings}
 use Rattle.rules.specs.Settings.{settings, all_slots, room}
@@ -10,7 +9,7 @@ use Rattle.rules.specs.Image.{within, address, view, Outcome, outcome, after}
 use Rattle.rules.specs.Damaged.{damaged}
 use Rattle.rules.specs.declared.Step.{Step}
 use Rattle.rules.specs.Step.{answer, step}
-use Rattle.rules.specs.ListQuestion.{list_number, list_from, list_many, list_part}
+use Rattle.rules.specs.ListQuestion.{list_number, list_from, list_many}
 use Rattle.rules.proofs.Laws.{holds, fails, either}
 use Rattle.rules.proofs.Places.{inside}
 use Rattle.rules.proofs.Limits.{room_slots}
@@ -18,6 +17,13 @@ use Rattle.rules.proofs.Shaped.{Shaped}
 use Rattle.rules.proofs.Sound.{Sound, undamaged_says}
 use Rattle.image.specs.declared.layout.Layout.{Layout}
 use Rattle.image.specs.Stands.{At}
+use Rattle.rules.specs.Replies.{why_number}
+use Rattle.rules.specs.declared.Why.{Why}
+use Rattle.rules.specs.declared.Why.TheVariants.{Damaged, NoSuchOperation, NoSuchThread, OperandBeyond, HandlerRunning, PhaseForbids, NoneFree, NotLive, CellNames, ListFull, NotHeld}
+
+-- no reason has the number 0
+pub why_not_0 : (w : Why) → why_number w ≢ 0
+why_not_0 w = elim w as (λ w. why_number w ≢ 0) [ Damaged ↦ omega arith | NoSuchOperation ↦ omega arith | NoSuchThread ↦ omega arith | OperandBeyond ↦ omega arith | HandlerRunning ↦ omega arith | PhaseForbids ↦ omega arith | NoneFree ↦ omega arith | NotLive ↦ omega arith | CellNames ↦ omega arith | ListFull ↦ omega arith | NotHeld ↦ omega arith ]
 
 module _ (I : List ℕ) where
   pub whole_1 : (s : Step) {b : Bool} → b ≡ damaged I → b ≡ true → outcome 1 0 I ≡ step I s
@@ -103,10 +109,3 @@ part_inside I t = elim (either (eqb (list_number I t) 0)) [
       rw h (omega (arith, q.0.long, (q.1.threads t a.1).length, inside (settings I) Entry t (room (settings I) - 1) (record { low = omega arith; high = omega (arith, a.1); place = omega arith })))
   | fails h ↦ rw h (omega arith)
 ]
-
-pub room_first : (l : Layout) → 0 < l.room
-room_first l = omega (arith, l.room_is, room_slots l.limits)
-
--- a part that stands where the list question says
-pub part_is : (I : List ℕ) (t : ℕ) {p k : ℕ} → p ≡ list_from I t → k ≡ list_many I t → take ((p + k) - p) (drop p I) ≡ list_part I t
-part_is I t {p} {k} e g = rw (add-sub_cancel_left p k, e, g)

@@ -1,5 +1,5 @@
 -- A run step by step: what one step does, what holds after each, and the whole report.
-use mathlib.Core.Path.{◌≡◌, sym, ap, ◌∙◌}
+use mathlib.Core.Path.{◌≡◌, refl, sym, ap, ◌∙◌}
 use mathlib.Core.List.{List, [], ◌∷◌, ◌++◌, append_assoc, append-nil}
 use Prim.Native.Nat.{ℕ, ◌+◌, ◌*◌, ◌-◌, ◌≤◌, ◌<◌}
 use native.Mathlib.Nat.{sub-zero}
@@ -7,23 +7,32 @@ use native.Mathlib.Omega.{arith}
 use lib.ListN.{length, take, replicate, length-append}
 use lib.Seq.{length-take-le}
 use borrow.Author.Tests.{eq-eqb}
-use Rattle.rules.specs.declared.Reply.{Reply}
-use Rattle.rules.specs.Settings.{settings_of}
+use Rattle.std.specs.Prelude.{Result, IsOk, Ok, Err}
+use Rattle.rules.specs.declared.Settings.{Settings}
+use Rattle.rules.specs.declared.Why.{Why}
+use Rattle.rules.specs.declared.NoSetUp.{NoSetUp}
 use Rattle.rules.specs.Image.{words, outcome}
 use Rattle.rules.specs.SetUp.{fresh, set_up_number, set_up, words_needed}
 use Rattle.rules.specs.declared.Step.{Step}
-use Rattle.rules.specs.Replies.{number_of, value_of}
+use Rattle.rules.specs.declared.NoSetUp.TheVariants.{SettingBeyond, WrongLength}
+use Rattle.rules.specs.Replies.{number_of, value_of, set_up_number_of}
 use Rattle.rules.specs.Step.{step}
 use Rattle.rules.specs.Schedules.{outcomes}
-use Rattle.rules.specs.Program.{ascii, most_steps, word, given_settings, given_count, given_step, given_steps, steps_from, line, lines, accepted, refusals_among, freed, total, report, longest}
+use Rattle.rules.specs.Program.{ascii, most_steps, given_settings, given_count, given_step, given_steps, steps_from, line, lines, accepted, refusals_among, freed, total, report, longest}
 use Rattle.rules.proofs.Limits.{legal_says, words_most}
 use Rattle.rules.proofs.Programs.{Says, line_most, lines_most, steps_long, accepted_most, refusals_most, freed_most, steps_next, steps_none, lines_next, accepted_next, refusals_next, freed_next, lines_none, accepted_none, refusals_none, freed_none}
 use Rattle.replay.specs.declared.report.Report.{Report}
 use Rattle.replay.specs.Line.{line_of}
 use Rattle.replay.specs.Tally.{Low, counted_in, header, nothing, Turned, Ran}
 
+-- a set-up that gives number 0 is done
+accepted_ok : {A : Type 0} (r : Result A NoSetUp) → set_up_number_of r ≡ 0 → IsOk r
+accepted_ok (Ok x) e = refl
+accepted_ok (Err SettingBeyond) e = absurd (omega (arith, e))
+accepted_ok (Err WrongLength) e = absurd (omega (arith, e))
+
 -- a step, its reply, its line and its count make a turn
-pub turned : {s : Step} {J J' : List ℕ} {r r' : Report} {n v : ℕ} (i : ℕ) (y : Reply) → outcome (number_of y) (value_of y) J' ≡ step J s → n ≡ number_of y → v ≡ value_of y
+pub turned : {s : Step} {J J' : List ℕ} {r r' : Report} {n v : ℕ} (i : ℕ) (y : Result ℕ Why) → outcome (number_of y) (value_of y) J' ≡ step J s → n ≡ number_of y → v ≡ value_of y
     → r'.text.bytes ≡ r.text.bytes ++ line_of i s.op n v → r'.tally ≡ counted_in r.tally s.op n v → Turned i s J J' r r'
 unfolding line line_of
 turned {s} {J} {n = n} {v = v} i y e a b h k =
@@ -100,18 +109,21 @@ module _ {I J₀ : List ℕ} {n : ℕ} {J : List ℕ} {r : Report} {i : ℕ} (g 
       }
 
 -- the settings as they were read
-module _ {I : List ℕ} {a b c d e f : ℕ} (p : a ≡ word I 1) (q : b ≡ word I 2) (r : c ≡ word I 3) (s : d ≡ word I 4) (u : e ≡ word I 5) (v : f ≡ word I 6) (g : Says I) where
-  given : settings_of a b c d e f ≡ given_settings I
-  unfolding given_settings
-  given = rw (p, q, r, s, u, v)
-
-  pub needs : {n : ℕ} → n ≡ words_needed (settings_of a b c d e f) → n ≡ words (given_settings I)
+module _ {I : List ℕ} {S : Settings} (e : S ≡ given_settings I) (g : Says I) where
+  pub needs : {n : ℕ} → n ≡ words_needed S → n ≡ words (given_settings I)
   unfolding words_needed
-  needs h = h ∙ ap words_needed given ∙ rw g.limits
+  needs h = h ∙ ap words_needed e ∙ rw g.limits
 
-  pub sets_up : (J : List ℕ) {J' : List ℕ} {n : ℕ} → length J ≡ words (given_settings I) → outcome n 0 J' ≡ set_up (settings_of a b c d e f) J → J' ≡ fresh (given_settings I)
+  done : (J : List ℕ) → length J ≡ words (given_settings I) → set_up S J ≡ outcome 0 0 (fresh (given_settings I))
   unfolding set_up set_up_number
-  sets_up J l h = ap (λ o. o.image) h ∙ rw (given, g.limits, eq-eqb (length J) (words (given_settings I)) l)
+  done J l = rw (e, g.limits, eq-eqb (length J) (words (given_settings I)) l)
+
+  module _ (J : List ℕ) (l : length J ≡ words (given_settings I)) {A : Type 0} (r : Result A NoSetUp) {J' : List ℕ} (h : outcome (set_up_number_of r) 0 J' ≡ set_up S J) where
+    pub sets_up : J' ≡ fresh (given_settings I)
+    sets_up = ap (λ o. o.image) (h ∙ done J l)
+
+    pub is_set_up : IsOk r
+    is_set_up = accepted_ok r (ap (λ o. o.number) (h ∙ done J l))
 
 -- an image needs no more words than the largest
 pub words_fit : {I : List ℕ} {n : ℕ} → Says I → n ≡ words (given_settings I) → n ≤ 8209

@@ -2,6 +2,8 @@
 use Rattle.replay.proofs.Runs as run
 use Rattle.replay.proofs.run.set_up.Goals as goal
 
+pub unwrap-requires : goal.unwrap-requires
+unwrap-requires c = run.is_set_up c.settings.ensures c.args.schedule.says c.args.image.now c.requires c.set_up.result c.set_up.ensures
+
 pub returns : goal.returns
-returns c =
-    run.sets_up c.word.ensures c.word-2.ensures c.word-3.ensures c.word-4.ensures c.word-5.ensures c.word-6.ensures c.args.schedule.says c.args.image.now c.requires c.set_up.ensures
+returns c = run.sets_up c.settings.ensures c.args.schedule.says c.args.image.now c.requires c.set_up.result c.set_up.ensures

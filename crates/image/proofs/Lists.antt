@@ -1,17 +1,17 @@
 -- Tests over the words that a view lends: a section's, a row's, and the entries of a list that are in use.
-use Rattle.std.proofs.Common.{◌≡◌, ℕ, ◌+◌, ◌-◌, ◌≤◌, ◌<◌, Bool, true, false, not, ◌&&◌, ◌||◌, eqb, leb, ltb, List, length, get_or, take, drop, ap, ◌∙◌, arith, length-take, length-drop, get_or-take, get_or-drop, lt-ltb, le-leb, ne_eqb}
+use Rattle.std.proofs.Common.{◌≡◌, ℕ, ◌+◌, ◌-◌, ◌≤◌, ◌<◌, Bool, true, false, not, ◌&&◌, ◌||◌, eqb, leb, ltb, List, length, get_or, take, drop, sym, ap, ◌∙◌, arith, length-take, length-drop, get_or-take, get_or-drop, lt-ltb, le-leb, ne_eqb}
 use borrow.Author.Tests.{le-ltb, lt-leb}
 use Rattle.rules.specs.Tests.{all}
 use Rattle.rules.specs.Phases.{freeing}
 use Rattle.rules.specs.declared.Kind.{Kind}
 use Rattle.rules.specs.Image.{size, start, lay}
 use Rattle.rules.specs.Damaged.{in_use}
-use Rattle.rules.proofs.Laws.{all_same}
+use Rattle.rules.proofs.Laws.{all_same, all_sum}
 use Rattle.rules.proofs.Limits.{room_slots}
 use Rattle.image.specs.declared.layout.Layout.{Layout}
 use Rattle.image.specs.declared.view.View.{View}
 use Rattle.image.specs.Views.{seen, IsSection, IsRow}
-use Rattle.image.proofs.Loops.{front, two_runs}
+use Rattle.image.proofs.Loops.{all_halves, front, two_runs}
 
 -- a list has a first entry
 pub room_first : (l : Layout) → 0 < l.room
@@ -20,6 +20,24 @@ room_first l = omega (arith, l.room_is, room_slots l.limits)
 -- the same number of tests, each of the same value
 pub all_told : {n m : ℕ} {f g : ℕ → Bool} {r : Bool} → n ≡ m → ((i : ℕ) → i < n → f i ≡ g i) → r ≡ all n f → r ≡ all m g
 all_told {n} {m} {f} {g} e h d = d ∙ all_same n h ∙ ap (λ (k : ℕ). all k g) e
+
+-- a list by its halves side by side, and by what is left behind them
+module _ (ws : List ℕ) (h : ℕ) (f : ℕ → Bool) (l : h + h ≤ length ws) where
+  abbrev at : ℕ → Bool
+  at i = f (get_or ws i 0)
+
+  pub halved : {low rest high last : List ℕ} {a b : Bool} → low ≡ take h ws → rest ≡ drop h ws → high ≡ take h rest → last ≡ drop h rest
+      → a ≡ all (length low) (λ i. f (get_or low i 0) && f (get_or high i 0)) → b ≡ all (length last) (λ i. f (get_or last i 0))
+      → (a && b) ≡ all (length ws) (λ i. f (get_or ws i 0))
+  halved {low} {rest} {high} {last} {a} {b} e0 e1 e2 e3 p0 q0 =
+      let p : a ≡ all (length (take h ws)) (λ i. f (get_or (take h ws) i 0) && f (get_or (take h (drop h ws)) i 0)) = rw (e2, e1, e0) at p0 in
+      let q : b ≡ all (length (drop h (drop h ws))) (λ i. f (get_or (drop h (drop h ws)) i 0)) = rw (e3, e1) at q0 in
+      let n : length (take h ws) ≡ h = simp (length-take) (omega arith) in
+      let m : length (drop h (drop h ws)) ≡ length ws - (h + h) = simp (length-drop) (omega arith) in
+      let s : length ws ≡ (h + h) + (length ws - (h + h)) = omega arith in
+      let x : a ≡ all (h + h) at = all_told n (λ i c. let d : i < h = omega (arith, c, n) in rw (get_or-take, get_or-take, get_or-drop)) p ∙ all_halves at h in
+      let y : b ≡ all (length ws - (h + h)) (λ i. at (h + h + i)) = all_told m (λ i c. ap f (rw (get_or-drop, get_or-drop) (ap (λ z. get_or ws z 0) (omega arith)))) q in
+      rw (x, y) (sym (all_sum at (h + h) (length ws - (h + h))) ∙ ap (λ (k : ℕ). all k at) (sym s))
 
 module _ {v : View} {k : Kind} {ws : List ℕ} (f : ℕ → Bool) {r : Bool} (e : r ≡ all (length ws) (λ i. f (get_or ws i 0))) where
   pub section_all : IsSection v k ws

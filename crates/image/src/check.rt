@@ -11,8 +11,8 @@ ghost use Rattle.image.specs.Views.{seen};
 use super::view::View;
 use rules::{Kind, Phase, Settings};
 
-// Each of the words is at most b.
-fn at_most(words: &[u32], b: u32) -> bool
+// Each word of a run is at most b.
+fn run_at_most(words: &[u32], b: u32) -> bool
     ensures { result ≡ all (length words.now) (λ i. leb (get_or words.now i 0) b) }
 {
     let mut ok = true;
@@ -20,6 +20,28 @@ fn at_most(words: &[u32], b: u32) -> bool
         ok = ok & (*word <= b);
     }
     ok
+}
+
+// Each word of two runs is at most b, two by two.
+fn both_at_most(low: &[u32], high: &[u32], b: u32) -> bool
+    requires { length low.now ≡ length high.now }
+    ensures { result ≡ all (length low.now) (λ i. leb (get_or low.now i 0) b && leb (get_or high.now i 0) b) }
+{
+    let mut beyond = false;
+    for (x, y) in low.iter().zip(high) {
+        beyond = beyond | (b < *x) | (b < *y);
+    }
+    !beyond
+}
+
+// Each of the words is at most b. The halves are read side by side: four vectors a turn, not two.
+fn at_most(words: &[u32], b: u32) -> bool
+    ensures { result ≡ all (length words.now) (λ i. leb (get_or words.now i 0) b) }
+{
+    let half = words.len() / 2;
+    let (low, rest) = words.split_at(half);
+    let (high, last) = rest.split_at(half);
+    both_at_most(low, high, b) & run_at_most(last, b)
 }
 
 // None of the words is 0.

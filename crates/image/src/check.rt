@@ -182,7 +182,7 @@ impl View<'_> {
     }
 
     // Whether all words are right.
-    pub(crate) fn right(&self) -> bool
+    pub fn right(&self) -> bool
         ensures { result ≡ image.right self.now.layout.settings (seen self.now) }
     {
         self.records_right() & self.statuses_right() & self.marks_right() & self.threads_right()

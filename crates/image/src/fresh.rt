@@ -1,12 +1,15 @@
 // Set-up: what it writes.
-ghost use Rattle.std.specs.Prelude.{◌≡◌, cond, [], ◌∷◌, ◌++◌, ℕ, ◌+◌, ◌<◌, ◌≤◌, length, get_or, take, replicate, eqb};
+ghost use Rattle.std.specs.Prelude.{◌≡◌, cond, [], ◌∷◌, ◌++◌, ℕ, ◌+◌, ◌<◌, ◌≤◌, length, get_or, take, replicate, eqb, slice_index};
+ghost use Rattle.rules.specs.Settings.{settings_of};
 ghost use Rattle.rules.specs.Image as whole;
 ghost use Rattle.rules.specs.SetUp as rule;
-ghost use Rattle.rules.proofs.Limits.{Limits};
 ghost use Rattle.image.specs.Filled.{Filled, Begun};
 
 use super::sizes::Sizes;
 use rules::Settings;
+
+// The section of the publish counts.
+const COUNTS: usize = 6;
 
 // The words from p on: n, and n times x.
 fn fill(words: &mut [u32], p: usize, n: usize, x: u32)
@@ -18,30 +21,23 @@ fn fill(words: &mut [u32], p: usize, n: usize, x: u32)
 }
 
 // The first section, after its count.
-fn put_settings(words: &mut [u32], s: Settings)
-    requires { (7 ≤ length words.old) × (Limits s) }
-    ensures { (length words.new ≡ length words.old) × (take 7 words.new ≡ rule.fresh_up_to s 1) }
+pub fn put_settings(words: &mut [u32], settings: [u32; 6])
+    requires { 7 ≤ length words.old }
+    ensures { (length words.new ≡ length words.old) × (take 7 words.new ≡ rule.fresh_up_to (settings_of (slice_index settings 0) (slice_index settings 1) (slice_index settings 2) (slice_index settings 3) (slice_index settings 4) (slice_index settings 5)) 1) }
 {
-    words[..7].copy_from_slice(&[
-        6,
-        s.threads as u32,
-        s.slots as u32,
-        s.cells as u32,
-        s.records as u32,
-        s.threshold as u32,
-        s.start as u32,
-    ]);
+    let [threads, slots, cells, records, threshold, start] = settings;
+    words[..7].copy_from_slice(&[6, threads, slots, cells, records, threshold, start]);
 }
 
 // What stands in each word of section k.
 fn word_of(k: usize, start: u32) -> u32
     ensures { result ≡ cond (eqb k rule.counts_section) start 0 }
 {
-    if k == 6 { start } else { 0 }
+    if k == COUNTS { start } else { 0 }
 }
 
 // All sections but the first, each after its count.
-fn put_sections(words: &mut [u32], sizes: &Sizes)
+pub fn put_sections(words: &mut [u32], sizes: &Sizes)
     requires { (length words.old ≡ whole.words sizes.now.settings) × (take 7 words.old ≡ rule.fresh_up_to sizes.now.settings 1) }
     ensures { words.new ≡ rule.fresh sizes.now.settings }
 {
@@ -55,10 +51,21 @@ fn put_sections(words: &mut [u32], sizes: &Sizes)
 }
 
 // An image as long as the sizes give.
-pub(crate) fn put(words: &mut [u32], sizes: &Sizes)
+pub fn put(words: &mut [u32], sizes: &Sizes)
     requires { length words.old ≡ whole.words sizes.now.settings }
     ensures { words.new ≡ rule.fresh sizes.now.settings }
 {
-    put_settings(words, sizes.settings);
+    let s = sizes.settings;
+    put_settings(
+        words,
+        [
+            s.threads as u32,
+            s.slots as u32,
+            s.cells as u32,
+            s.records as u32,
+            s.threshold as u32,
+            s.start as u32,
+        ],
+    );
     put_sections(words, sizes);
 }

@@ -31,7 +31,7 @@ pub(crate) struct Lay {
 }
 
 // The settings of an image: its words after the first count.
-pub(crate) fn settings(words: &[u32]) -> Settings
+pub fn settings(words: &[u32]) -> Settings
     requires { 7 ≤ length words.now }
     ensures { result ≡ of.settings words.now }
 {
@@ -78,7 +78,7 @@ impl Layout {
         self.settings.threads * self.settings.slots
     }
 
-    // The layout table.
+    // The layout table. Sections are numbers here as in the definition's table: loops count over them, and an enum would be turned into its number at each use.
     #[inline]
     pub(crate) fn lay(self, kind: Kind) -> Lay
         ensures { Lays self.settings kind result.section result.from result.width result.offset result.span }

@@ -1,12 +1,12 @@
 // The image: its layout, whether it is damaged, and its set-up.
 #![tactic(auto)]
 
-mod check;
-mod fresh;
+pub mod check;
+pub mod fresh;
 pub mod layout;
 pub mod sizes;
 pub mod view;
-mod words;
+pub mod words;
 
 ghost use Rattle.std.specs.Prelude.{◌≡◌};
 ghost use Rattle.rules.specs.Image.{outcome};
@@ -36,7 +36,7 @@ pub fn damaged(words: &[u32]) -> bool
     !View { words, layout }.right()
 }
 
-// How many words an image of these settings has, 0 where they are refused.
+// How many words an image of these settings has, 0 where they are refused: a number and no Option, as the definition `words_needed` has it.
 pub fn words_needed(settings: Settings) -> usize
     ensures { result ≡ rule.words_needed settings }
 {

@@ -111,7 +111,7 @@ impl Sizes {
     }
 
     // Whether an image's length and counts are what the sizes give.
-    pub(crate) fn laid(&self, words: &[u32]) -> bool
+    pub fn laid(&self, words: &[u32]) -> bool
         ensures { result ≡ image.laid self.now.settings words.now }
     {
         words.len() == self.total() && self.counts_right(words)

@@ -150,13 +150,13 @@ fn free(image: &mut Image<'_>, t: usize) -> Reply
     let k = view.word(Kind::V, t, 0);
     let n = view.word(Kind::Length, t, 0) as usize;
     let p = view.word(Kind::Entry, t, i);
-    if searches::noted(&view, t, p) {
-        image.set(Kind::Entry, t, i, 0);
+    let kept = searches::noted(&view, t, p);
+    image.set(Kind::Entry, t, i, 0);
+    if kept {
         image.set(Kind::Entry, t, k as usize, p);
         freed_on(image, t, i, n, k + 1);
         Ok(2)
     } else {
-        image.set(Kind::Entry, t, i, 0);
         image.set(Kind::Status, p as usize, 0, 0);
         freed_on(image, t, i, n, k);
         Ok(3)

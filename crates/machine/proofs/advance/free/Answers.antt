@@ -12,23 +12,23 @@ overflow_add-k c =
 pub freed_on-requires : goal.freed_on-requires
 freed_on-requires c =
     let v = c.view-view.ensures in (
-      rw (c.set-then-noted.ensures.layout, c.set.ensures.layout) c.requires.0,
+      rw (c.set-then-kept.ensures.layout, c.set.ensures.layout) c.requires.0,
       omega (arith, told c.args.image.now c.view-view.result v.words v.layout _ _ _ c.word-i.ensures, c.requires.1, room_fits c.args.image.now.layout),
     )
 
-pub freed_on-requires-else-noted : goal.freed_on-requires-else-noted
-freed_on-requires-else-noted c =
+pub freed_on-requires-else-kept : goal.freed_on-requires-else-kept
+freed_on-requires-else-kept c =
     let v = c.view-view.ensures in (
-      rw (c.set-else-noted-2.ensures.layout, c.set-else-noted.ensures.layout) c.requires.0,
+      rw (c.set-else-kept.ensures.layout, c.set.ensures.layout) c.requires.0,
       omega (arith, told c.args.image.now c.view-view.result v.words v.layout _ _ _ c.word-i.ensures, c.requires.1, room_fits c.args.image.now.layout),
     )
 
-pub returns-then-noted : goal.returns-then-noted
-returns-then-noted c =
+pub returns-then-kept : goal.returns-then-kept
+returns-then-kept c =
     let v = c.view-view.ensures in
-    free_keeps c.args.image.now c.view-view.result v.words v.layout _ c.word-i.ensures c.word-k.ensures c.word-n.ensures c.word-p.ensures c.noted.ensures c.if-noted.true c.set.ensures c.set-then-noted.ensures c.freed_on.ensures
+    free_keeps c.args.image.now c.view-view.result v.words v.layout _ c.word-i.ensures c.word-k.ensures c.word-n.ensures c.word-p.ensures c.noted-kept.ensures c.set.ensures c.if-kept.true c.set-then-kept.ensures c.freed_on.ensures
 
-pub returns-else-noted : goal.returns-else-noted
-returns-else-noted c =
+pub returns-else-kept : goal.returns-else-kept
+returns-else-kept c =
     let v = c.view-view.ensures in
-    free_frees c.args.image.now c.view-view.result v.words v.layout _ c.word-i.ensures c.word-k.ensures c.word-n.ensures c.word-p.ensures c.noted.ensures c.if-noted.false c.set-else-noted.ensures c.set-else-noted-2.ensures c.freed_on-else-noted.ensures
+    free_frees c.args.image.now c.view-view.result v.words v.layout _ c.word-i.ensures c.word-k.ensures c.word-n.ensures c.word-p.ensures c.noted-kept.ensures c.set.ensures c.if-kept.false c.set-else-kept.ensures c.freed_on-else-kept.ensures

@@ -5,4 +5,4 @@ use Rattle.machine.proofs.operations.allocate.Goals as goal
 pub returns : goal.returns
 returns c =
     let v = c.view.ensures in
-    allocate_joined c.args.image.now c.view.result v.words v.layout 0 c.lowest_free-p.ensures.0 c.if-p-eq0.false c.set.ensures
+    allocate_joined c.args.image.now c.view.result v.words v.layout c.lowest_free-p.ensures.0 c.if-p-eq0.false c.set.ensures

@@ -23,7 +23,10 @@ use Rattle.image.specs.declared.view.Image.{Image}
 use Rattle.image.specs.Views.{state}
 use Rattle.machine.specs.Admitted.{Admitted}
 use Rattle.machine.specs.Answers.{Answered}
-use Rattle.machine.proofs.Joins.{says}
+
+-- what answers for an answer does for the rule that gives it
+pub says : {i j : Image} {r : Result ℕ Why} {a b : Answer} → a ≡ b → Answered i j r b → Answered i j r a
+says e h = rw e h
 
 -- a refusal leaves all as it is
 pub refuses : {i : Image} {r : Result ℕ Why} {y : Why} {a : Answer} → r ≡ Err y → a ≡ refused (why_number y) → Answered i i r a

@@ -2,6 +2,5 @@
 pub mod Sections
 pub mod Passed
 pub mod Operands
-pub mod Joins
 pub mod Dispatch
 pub mod Undamaged

@@ -13,13 +13,6 @@ use super::searches;
 use image::view::{Image, View};
 use rules::{Kind, Phase, Reply};
 
-// A phase as a word.
-fn word_of(phase: Phase) -> u32
-    ensures { result ≡ phase_number phase }
-{
-    phase as u32
-}
-
 // After item i of n: to the next item, or to the next phase.
 fn onward(image: &mut Image<'_>, t: usize, i: usize, n: usize, next: Phase)
     requires { (t < image.old.layout.settings.threads) × (i < 4294967295) }
@@ -27,7 +20,7 @@ fn onward(image: &mut Image<'_>, t: usize, i: usize, n: usize, next: Phase)
 {
     if i + 1 == n {
         image.set(Kind::U, t, 0, 0);
-        image.set(Kind::Phase, t, 0, word_of(next));
+        image.set(Kind::Phase, t, 0, next as u32);
     } else {
         image.set(Kind::U, t, 0, (i + 1) as u32);
     }
@@ -150,13 +143,13 @@ fn free(image: &mut Image<'_>, t: usize) -> Reply
     let k = view.word(Kind::V, t, 0);
     let n = view.word(Kind::Length, t, 0) as usize;
     let p = view.word(Kind::Entry, t, i);
-    if searches::noted(&view, t, p) {
-        image.set(Kind::Entry, t, i, 0);
+    let kept = searches::noted(&view, t, p);
+    image.set(Kind::Entry, t, i, 0);
+    if kept {
         image.set(Kind::Entry, t, k as usize, p);
         freed_on(image, t, i, n, k + 1);
         Ok(2)
     } else {
-        image.set(Kind::Entry, t, i, 0);
         image.set(Kind::Status, p as usize, 0, 0);
         freed_on(image, t, i, n, k);
         Ok(3)

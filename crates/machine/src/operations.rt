@@ -4,7 +4,8 @@ ghost use Rattle.rules.specs.Settings as of;
 ghost use Rattle.rules.specs.State.{u, v, list_length, held, handler, pending, status, when, phase≔, u≔};
 ghost use Rattle.rules.specs.Phases.{collecting};
 ghost use Rattle.rules.specs.Operations as rule;
-ghost use Rattle.rules.specs.Replies.{◌if◌};
+ghost use Rattle.rules.specs.Image.{outcome, after};
+ghost use Rattle.rules.specs.Replies.{◌if◌, number_of, value_of};
 ghost use Rattle.rules.proofs.Checked.{checked};
 ghost use Rattle.image.specs.Views.{seen, state, Wrote};
 ghost use Rattle.machine.specs.Answers.{Answered};
@@ -15,7 +16,6 @@ use image::view::{Image, View};
 use rules::{Kind, Phase, Reply, Why};
 
 // Slot s of thread t, counted over all threads.
-#[inline]
 fn slot_of(layout: Layout, t: usize, s: usize) -> usize
     requires { (t < layout.settings.threads) × (s < layout.settings.slots) }
     ensures { (result ≡ of.slot layout.settings t s) × (result < of.all_slots layout.settings) }
@@ -111,11 +111,10 @@ pub fn check(image: &mut Image<'_>, t: usize) -> Reply
 }
 
 // 5: slot a
-pub fn use_slot(image: &mut Image<'_>, t: usize, a: u32) -> Reply
-    requires { (t < image.old.layout.settings.threads) × (a < image.old.layout.settings.slots) }
-    ensures { Answered image.old image.new result (checked ((11 if held (state image.old) (of.slot image.old.layout.settings t a) == 0) ∷ []) (rule.use_slot image.old.layout.settings (state image.old) t a)) }
+pub fn use_slot(view: &View<'_>, t: usize, a: u32) -> Reply
+    requires { (t < view.now.layout.settings.threads) × (a < view.now.layout.settings.slots) }
+    ensures { outcome (number_of result) (value_of result) view.now.words.now ≡ after view.now.layout.settings view.now.words.now (checked ((11 if held (seen view.now) (of.slot view.now.layout.settings t a) == 0) ∷ []) (rule.use_slot view.now.layout.settings (seen view.now) t a)) }
 {
-    let view = image.view();
     let slot = slot_of(view.layout, t, a as usize);
     if view.word(Kind::Held, slot, 0) == 0 {
         return Err(Why::NotHeld);

@@ -23,24 +23,11 @@ const ALLOWED: [[bool; 8]; 11] = [
     [true, true, true, true, true, true, true, true],
 ];
 
-// The row of an operation, and the column of a phase.
-fn row_of(op: Operation) -> usize
-    ensures { result ≡ op_number op }
-{
-    op as usize
-}
-
-fn column_of(phase: Phase) -> usize
-    ensures { result ≡ phase_number phase }
-{
-    phase as usize
-}
-
 // The phase allows the operation.
 pub fn allowed(op: Operation, phase: Phase) -> bool
     ensures { result ≡ table.allows (op_number op) (phase_number phase) }
 {
-    ALLOWED[row_of(op)][column_of(phase)]
+    ALLOWED[op as usize][phase as usize]
 }
 
 // What the first, the second and the third operand must be below: one that isn't listed must be 0.

@@ -8,7 +8,7 @@ ghost use Rattle.image.specs.Views.{seen};
 use image::view::View;
 use rules::Kind;
 
-// One of the words is x. All are read, so that they are read as vectors.
+// One of the words is x. None ends the loop early, so that they are read as vectors.
 fn any(words: &[u32], x: u32) -> bool
     ensures { result ≡ some (length words.now) (λ i. nat_eq (slice_index words.now i) x) }
 {
@@ -34,16 +34,16 @@ pub fn noted(view: &View<'_>, a: usize, p: u32) -> bool
     any(view.row(Kind::Scanned, a), p)
 }
 
-// How many words can be passed over, as none of them is 0: block after block, each read as vectors.
+// How many words can be passed over, as none of them is 0: block after block, each long enough to be read as vectors.
 fn without_zero(words: &[u32]) -> usize
     ensures { (result ≤ length words.now) × ((k : ℕ) → k < result → slice_index words.now k ≢ 0) }
 {
     let mut passed = 0;
-    for block in words.chunks_exact(32) {
+    for block in words.chunks_exact(128) {
         if any(block, 0) {
             return passed;
         }
-        passed += 32;
+        passed += 128;
     }
     passed
 }

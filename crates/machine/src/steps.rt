@@ -24,7 +24,7 @@ fn perform(image: &mut Image<'_>, op: Operation, at: Phase, step: Step) -> Reply
         Operation::Load => operations::load(image, t, step.a, step.b),
         Operation::Reserve => operations::reserve(image, t),
         Operation::Check => operations::check(image, t),
-        Operation::Use => operations::use_slot(image, t, step.a),
+        Operation::Use => operations::use_slot(&image.view(), t, step.a),
         Operation::Clear => operations::clear(image, t, step.a),
         Operation::Retire => operations::retire(image, t, step.a),
         Operation::Advance => advance::advance(image, t, at),

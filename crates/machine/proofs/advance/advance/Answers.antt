@@ -1,8 +1,7 @@
 -- The phase picks the rule's line, and its phase line gives what the call asks.
 use Rattle.std.proofs.Common.{sym, ap, ◌∙◌}
 use Rattle.rules.specs.Replies.{phase_number}
-use Rattle.machine.proofs.Dispatch.{freeing_left, item_there}
-use Rattle.machine.proofs.Joins.{says}
+use Rattle.machine.proofs.Dispatch.{freeing_left, item_there, says}
 use Rattle.rules.proofs.Branches.{advance_collect, advance_free, advance_ping, advance_scan, advance_wait}
 use Rattle.machine.proofs.advance.advance.Goals as goal
 

@@ -1,34 +1,28 @@
 -- The branches of the rule, by whether the record is noted.
-use Rattle.std.proofs.Common.{arith}
+use Rattle.std.proofs.Common.{rules, arith}
 use Rattle.image.proofs.Stands.{room_fits}
-use Rattle.machine.proofs.Joins.{told, free_keeps, free_frees}
+use Rattle.rules.specs.Advance.{free}
 use Rattle.machine.proofs.advance.free.Goals as goal
 
 pub overflow_add-k : goal.overflow_add-k
 overflow_add-k c =
     let v = c.view-view.ensures in
-    omega (arith, told c.args.image.now c.view-view.result v.words v.layout _ _ _ c.word-k.ensures, c.requires.1, c.requires.2, room_fits c.args.image.now.layout)
+    omega (arith, rw (v.words, v.layout) at c.word-k.ensures, c.requires.1, c.requires.2, room_fits c.args.image.now.layout)
 
 pub freed_on-requires : goal.freed_on-requires
 freed_on-requires c =
-    let v = c.view-view.ensures in (
-      rw (c.set-then-noted.ensures.layout, c.set.ensures.layout) c.requires.0,
-      omega (arith, told c.args.image.now c.view-view.result v.words v.layout _ _ _ c.word-i.ensures, c.requires.1, room_fits c.args.image.now.layout),
-    )
-
-pub freed_on-requires-else-noted : goal.freed_on-requires-else-noted
-freed_on-requires-else-noted c =
-    let v = c.view-view.ensures in (
-      rw (c.set-else-noted-2.ensures.layout, c.set-else-noted.ensures.layout) c.requires.0,
-      omega (arith, told c.args.image.now c.view-view.result v.words v.layout _ _ _ c.word-i.ensures, c.requires.1, room_fits c.args.image.now.layout),
-    )
-
-pub returns-then-noted : goal.returns-then-noted
-returns-then-noted c =
     let v = c.view-view.ensures in
-    free_keeps c.args.image.now c.view-view.result v.words v.layout _ c.word-i.ensures c.word-k.ensures c.word-n.ensures c.word-p.ensures c.noted.ensures c.if-noted.true c.set.ensures c.set-then-noted.ensures c.freed_on.ensures
+    (search rules, omega (arith, rw (v.words, v.layout) at c.word-i.ensures, c.requires.1, room_fits c.args.image.now.layout))
 
-pub returns-else-noted : goal.returns-else-noted
-returns-else-noted c =
+pub freed_on-requires-else-kept : goal.freed_on-requires-else-kept
+freed_on-requires-else-kept c =
     let v = c.view-view.ensures in
-    free_frees c.args.image.now c.view-view.result v.words v.layout _ c.word-i.ensures c.word-k.ensures c.word-n.ensures c.word-p.ensures c.noted.ensures c.if-noted.false c.set-else-noted.ensures c.set-else-noted-2.ensures c.freed_on-else-noted.ensures
+    (search rules, omega (arith, rw (v.words, v.layout) at c.word-i.ensures, c.requires.1, room_fits c.args.image.now.layout))
+
+pub returns-then-kept : goal.returns-then-kept
+unfolding free
+returns-then-kept c = search rules
+
+pub returns-else-kept : goal.returns-else-kept
+unfolding free
+returns-else-kept c = search rules

@@ -1,9 +1,12 @@
 -- The rule's words after the last item, and after another.
-use Rattle.rules.proofs.Branches.{onward_last, onward_next}
+use Rattle.std.proofs.Common.{rules}
+use Rattle.rules.specs.Advance.{onward}
 use Rattle.machine.proofs.advance.onward.Goals as goal
 
 pub returns-then-i-n : goal.returns-then-i-n
-returns-then-i-n c = record { same = cc; layout = cc; words = rw (onward_last _ _ _ _ _ _ c.if-i-n.true) (cc) }
+unfolding onward
+returns-then-i-n c = search rules
 
 pub returns-else-i-n : goal.returns-else-i-n
-returns-else-i-n c = record { same = cc; layout = cc; words = rw (onward_next _ _ _ _ _ _ c.if-i-n.false) (cc) }
+unfolding onward
+returns-else-i-n c = search rules

@@ -1,5 +1,5 @@
 -- The rule's words, one call each, in its order.
-use Rattle.std.proofs.Common.{arith}
+use Rattle.std.proofs.Common.{rules, arith}
 use Rattle.image.proofs.Stands.{room_fits}
 use Rattle.rules.specs.Operations.{retire}
 use Rattle.machine.proofs.operations.append.Goals as goal
@@ -9,4 +9,4 @@ overflow_add-n c = omega (arith, room_fits c.args.image.now.layout)
 
 pub returns : goal.returns
 unfolding retire
-returns c = record { same = cc; layout = cc; words = cc }
+returns c = search rules

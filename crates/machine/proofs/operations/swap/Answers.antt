@@ -1,8 +1,8 @@
-use Rattle.std.proofs.Common.{arith}
-use Rattle.std.proofs.lemmas.Grind.{common_steps}
+-- The rule's word, written under its test.
+use Rattle.std.proofs.Common.{rules}
 use Rattle.rules.specs.Operations.{swap}
 use Rattle.machine.proofs.operations.swap.Goals as goal
 
 pub returns : goal.returns
 unfolding swap
-returns c = grind (arith, common_steps)
+returns c = search rules

@@ -1,9 +1,8 @@
--- The rule's words, by the operands that it reads.
-use Rattle.std.proofs.Common.{arith}
-use Rattle.std.proofs.lemmas.Grind.{common_steps}
+-- The slot is read.
+use Rattle.std.proofs.Common.{rules}
 use Rattle.rules.specs.Operations.{use_slot}
 use Rattle.machine.proofs.operations.use_slot.Goals as goal
 
 pub returns : goal.returns
 unfolding use_slot
-returns c = grind (arith, common_steps)
+returns c = search rules

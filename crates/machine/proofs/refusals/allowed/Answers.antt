@@ -1,7 +1,8 @@
--- The constant table is the definition's, by one computed test.
+-- The constant table is the definition's, place by place.
+use Rattle.std.proofs.Common.{rules}
 use Rattle.rules.specs.Phases.{allowed, allows}
 use Rattle.machine.proofs.refusals.allowed.Goals as goal
 
 pub returns : goal.returns
 unfolding allows allowed
-returns c = rw (c.row_of.ensures, c.column_of.ensures)
+returns c = search rules

@@ -1,5 +1,5 @@
 -- An arm an operation: what it asks is what the rows before leave, and what it answers is what is left of the table.
-use Rattle.std.proofs.Common.{sym, ap, ◌∙◌}
+use Rattle.std.proofs.Common.{refl, sym, ap, ◌∙◌}
 use Rattle.rules.specs.Replies.{op_number}
 use Rattle.machine.proofs.Dispatch.{at_op}
 use Rattle.rules.proofs.Checked.{late_advance, late_allocate, late_check, late_clear, late_deliver, late_handle, late_load, late_reserve, late_retire, late_swap, late_use}
@@ -21,7 +21,11 @@ pub returns-in-Check : goal.returns-in-Check
 returns-in-Check c = at_op c.args.step 4 c.requires.2 (sym c.requires.0 ∙ ap op_number c.in-Check.is) (late_check _ _ _ _ _ _) c.check.ensures
 
 pub returns-in-Use : goal.returns-in-Use
-returns-in-Use c = at_op c.args.step 5 c.requires.2 (sym c.requires.0 ∙ ap op_number c.in-Use.is) (late_use _ _ _ _ _ _) c.use_slot.ensures
+returns-in-Use c =
+    let i = c.args.image.now in
+    let v = c.view.ensures in
+    at_op {i = i} {j = i} c.args.step 5 c.requires.2 (sym c.requires.0 ∙ ap op_number c.in-Use.is) (late_use _ _ _ _ _ _)
+    (record { same = refl; layout = refl; outcome = rw (v.words, v.layout) at c.use_slot.ensures })
 
 pub returns-in-Clear : goal.returns-in-Clear
 returns-in-Clear c = at_op c.args.step 6 c.requires.2 (sym c.requires.0 ∙ ap op_number c.in-Clear.is) (late_clear _ _ _ _ _ _) c.clear.ensures

@@ -10,9 +10,3 @@ returns-in_err-op c =
     let e : c.from_residual.result ≡ Err c.in_err-op.field-0.0 = search rules in
     let n = c.in_err-op.ensures in
     refuses e (rw n.0 (out_2 i.layout.settings (state i) c.args.step n.1))
-
-pub returns-in_err-at : goal.returns-in_err-at
-returns-in_err-at c =
-    let v = c.view.ensures in
-    let e : c.from_residual-in_err-at.result ≡ Err c.in_err-at.field-0.0 = search rules in
-    refuses e (rw (v.layout, v.words) at c.in_err-at.ensures)

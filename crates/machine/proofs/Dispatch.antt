@@ -33,7 +33,7 @@ pub refuses : {i : Image} {r : Result ℕ Why} {y : Why} {a : Answer} → r ≡ 
 refuses e h = rw (e, h) (record { same = refl; layout = refl; outcome = refl })
 
 -- the operation that the step names
-pub at_op : {i j : Image} (s : Step) (k : ℕ) {at : Phase} {r : Result ℕ Why} {x : Answer} → Admitted i.layout.settings (state i) s at → s.op ≡ k
+pub at_op : {i j : Image} (s : Step) (k : ℕ) {r : Result ℕ Why} {x : Answer} → Admitted i.layout.settings (state i) s → s.op ≡ k
     → checked (late i.layout.settings (state i) s.thread k s.a s.b s.c) (perform i.layout.settings (state i) (step_of s.thread k s.a s.b s.c)) ≡ x
     → Answered i j r x → Answered i j r (answer i.layout.settings (state i) s)
 at_op s k d e h g = says d.left (rw (e, h) g)
@@ -74,9 +74,8 @@ module _ (S : Settings) (m : State) (s : Step) where
           pub out_6 : y ≡ false → answer S m s ≡ refused 6
           out_6 g = answer_6 S m s.thread s.op s.a s.b s.c row_2 row_3 (sym e4 ∙ h4) (sym handling_is ∙ h5) (sym allows_is ∙ g)
 
-          pub admitted : y ≡ true → Admitted S m s p
+          pub admitted : y ≡ true → Admitted S m s
           admitted g = record {
-            phase = e6;
             entered = entered S m s.thread s.op s.a s.b s.c known h3 (sym e4 ∙ h4) (sym allows_is ∙ g);
             left = answer_late S m s.thread s.op s.a s.b s.c row_2 row_3 (sym e4 ∙ h4) (sym handling_is ∙ h5) (sym allows_is ∙ g);
           }

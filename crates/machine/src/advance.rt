@@ -156,11 +156,12 @@ fn free(image: &mut Image<'_>, t: usize) -> Reply
     }
 }
 
-// 8, in the thread's phase, which is one from 3 on
-pub fn advance(image: &mut Image<'_>, t: usize, at: Phase) -> Reply
-    requires { (t < image.old.layout.settings.threads) × (phase_number at ≡ phase (state image.old) t) × (3 ≤ phase (state image.old) t) × (Thread image.old.layout.settings (state image.old) t) × ((i : ℕ) → i < image.old.layout.room → entry (state image.old) t i ≤ image.old.layout.settings.records) }
+// 8, where the thread's phase is one from 3 on
+pub fn advance(image: &mut Image<'_>, t: usize) -> Reply
+    requires { (t < image.old.layout.settings.threads) × (3 ≤ phase (state image.old) t) × (Thread image.old.layout.settings (state image.old) t) × ((i : ℕ) → i < image.old.layout.room → entry (state image.old) t i ≤ image.old.layout.settings.records) }
     ensures { Answered image.old image.new result (rule.advance image.old.layout.settings (state image.old) t) }
 {
+    let at = Phase::try_from(image.view().word(Kind::Phase, t, 0))?;
     match at {
         Phase::Collecting => collect(image, t),
         Phase::Pinging => ping(image, t),

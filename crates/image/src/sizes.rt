@@ -89,11 +89,11 @@ impl Sizes {
     pub fn total(&self) -> usize
         ensures { result ≡ whole.words self.now.settings }
     {
-        let mut p = 0;
+        let mut words = 0;
         for n in &self.sections {
-            p += 1 + *n;
+            words += 1 + *n;
         }
-        p
+        words
     }
 
     // Whether each section's count is right, in an image as long as the sizes give.

@@ -1,10 +1,10 @@
 // The machine: the step, and the question for one thread's retire list.
 #![tactic(auto)]
 
-mod advance;
-mod operations;
-mod refusals;
-mod searches;
+pub mod advance;
+pub mod operations;
+pub mod refusals;
+pub mod searches;
 pub mod steps;
 
 ghost use Rattle.std.specs.Prelude.{◌≡◌, ◌+◌, ◌*◌, IfOk};

@@ -11,26 +11,16 @@ ghost use Rattle.image.specs.Views.{seen, state, Wrote};
 ghost use Rattle.machine.specs.Answers.{Answered};
 
 use super::searches;
-use image::layout::Layout;
 use image::view::{Image, View};
 use rules::{Kind, Phase, Reply, Why};
-
-// Slot s of thread t, counted over all threads.
-fn slot_of(layout: Layout, t: usize, s: usize) -> usize
-    requires { (t < layout.settings.threads) × (s < layout.settings.slots) }
-    ensures { (result ≡ of.slot layout.settings t s) × (result < of.all_slots layout.settings) }
-{
-    t * layout.settings.slots + s
-}
 
 // 0
 pub fn allocate(image: &mut Image<'_>) -> Reply
     ensures { Answered image.old image.new result (checked ((7 if rule.lowest_free (state image.old) image.old.layout.settings.records == 0) ∷ []) (rule.allocate image.old.layout.settings (state image.old))) }
 {
-    let p = searches::lowest_free(&image.view());
-    if p == 0 {
+    let Some(p) = searches::lowest_free(&image.view()) else {
         return Err(Why::NoneFree);
-    }
+    };
     image.set(Kind::Status, p, 0, 1);
     Ok(p as u32)
 }
@@ -76,7 +66,7 @@ pub fn reserve(image: &mut Image<'_>, t: usize) -> Reply
     ensures { Answered image.old image.new result (rule.reserve image.old.layout.settings (state image.old) t) }
 {
     let view = image.view();
-    let slot = slot_of(view.layout, t, view.word(Kind::U, t, 0) as usize);
+    let slot = view.layout.slot(t, view.word(Kind::U, t, 0) as usize);
     let record = view.word(Kind::W, t, 0);
     image.set(Kind::Private, slot, 0, record);
     image.set(Kind::Held, slot, 0, 0);
@@ -101,7 +91,7 @@ pub fn check(image: &mut Image<'_>, t: usize) -> Reply
     ensures { Answered image.old image.new result (rule.check image.old.layout.settings (state image.old) t) }
 {
     let view = image.view();
-    let slot = slot_of(view.layout, t, view.word(Kind::U, t, 0) as usize);
+    let slot = view.layout.slot(t, view.word(Kind::U, t, 0) as usize);
     let cell = view.word(Kind::V, t, 0) as usize;
     let record = view.word(Kind::W, t, 0);
     let equal = view.word(Kind::Cell, cell, 0) == record;
@@ -115,7 +105,7 @@ pub fn use_slot(view: &View<'_>, t: usize, a: u32) -> Reply
     requires { (t < view.now.layout.settings.threads) × (a < view.now.layout.settings.slots) }
     ensures { outcome (number_of result) (value_of result) view.now.words.now ≡ after view.now.layout.settings view.now.words.now (checked ((11 if held (seen view.now) (of.slot view.now.layout.settings t a) == 0) ∷ []) (rule.use_slot view.now.layout.settings (seen view.now) t a)) }
 {
-    let slot = slot_of(view.layout, t, a as usize);
+    let slot = view.layout.slot(t, a as usize);
     if view.word(Kind::Held, slot, 0) == 0 {
         return Err(Why::NotHeld);
     }
@@ -127,7 +117,7 @@ pub fn clear(image: &mut Image<'_>, t: usize, a: u32) -> Reply
     requires { (t < image.old.layout.settings.threads) × (a < image.old.layout.settings.slots) }
     ensures { Answered image.old image.new result (rule.clear image.old.layout.settings t a) }
 {
-    let slot = slot_of(image.layout, t, a as usize);
+    let slot = image.layout.slot(t, a as usize);
     image.set(Kind::Private, slot, 0, 0);
     image.set(Kind::Held, slot, 0, 0);
     Ok(0)
@@ -192,7 +182,7 @@ fn copy(image: &mut Image<'_>, t: usize, k: u32)
     requires { (t < image.old.layout.settings.threads) × (1 ≤ k) × (k ≤ image.old.layout.settings.slots) × (k ≡ handler (state image.old) t) }
     ensures { Wrote image.old image.new (rule.handle image.old.layout.settings (state image.old) t).writes }
 {
-    let slot = slot_of(image.layout, t, k as usize - 1);
+    let slot = image.layout.slot(t, k as usize - 1);
     let record = image.view().word(Kind::Private, slot, 0);
     image.set(Kind::Published, slot, 0, record);
     image.set(Kind::Handler, t, 0, k + 1);

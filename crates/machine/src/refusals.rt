@@ -2,11 +2,11 @@
 ghost use Rattle.std.specs.Prelude.{◌≡◌, ℕ, ◌<◌, slice_index};
 ghost use Rattle.rules.specs.Phases as table;
 ghost use Rattle.rules.specs.Replies.{op_number, phase_number};
+ghost use Rattle.rules.proofs.Limits.{Limits};
 ghost use Rattle.rules.proofs.Refused.{operand_wrong};
 ghost use Rattle.machine.specs.Operands.{operand_limit};
 
-use image::layout::Layout;
-use rules::{Operation, Phase, Step};
+use rules::{Operation, Phase, Settings, Step};
 
 // Which phases allow each operation: a row an operation, a column a phase.
 const ALLOWED: [[bool; 8]; 11] = [
@@ -31,12 +31,12 @@ pub fn allowed(op: Operation, phase: Phase) -> bool
 }
 
 // What the first, the second and the third operand must be below: one that isn't listed must be 0.
-fn limits(layout: Layout, op: Operation) -> [usize; 3]
-    ensures first { slice_index result 0 ≡ operand_limit layout.settings (op_number op) 0 }
-    ensures second { slice_index result 1 ≡ operand_limit layout.settings (op_number op) 1 }
-    ensures third { slice_index result 2 ≡ operand_limit layout.settings (op_number op) 2 }
+fn limits(s: Settings, op: Operation) -> [usize; 3]
+    requires { Limits s }
+    ensures first { slice_index result 0 ≡ operand_limit s (op_number op) 0 }
+    ensures second { slice_index result 1 ≡ operand_limit s (op_number op) 1 }
+    ensures third { slice_index result 2 ≡ operand_limit s (op_number op) 2 }
 {
-    let s = layout.settings;
     match op {
         Operation::Swap => [s.cells, s.records + 1, s.records + 1],
         Operation::Load => [s.slots, s.cells, 1],
@@ -52,11 +52,11 @@ fn limits(layout: Layout, op: Operation) -> [usize; 3]
 }
 
 // An operand is beyond its limit, one that isn't listed isn't 0, or it is a retire of 0.
-pub fn wrong_operand(layout: Layout, op: Operation, step: Step) -> bool
-    requires { op_number op ≡ step.op }
-    ensures { result ≡ operand_wrong layout.settings step }
+pub fn wrong_operand(s: Settings, op: Operation, step: Step) -> bool
+    requires { (Limits s) × (op_number op ≡ step.op) }
+    ensures { result ≡ operand_wrong s step }
 {
-    let [first, second, third] = limits(layout, op);
+    let [first, second, third] = limits(s, op);
     let fit = ((step.a as usize) < first)
         & ((step.b as usize) < second)
         & ((step.c as usize) < third);

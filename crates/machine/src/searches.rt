@@ -55,14 +55,12 @@ fn first_zero(words: &[u32]) -> Option<usize>
     words.iter().position(|word| *word == 0)
 }
 
-// The lowest free record, 0 if none is free.
-pub fn lowest_free(view: &View<'_>) -> usize
-    ensures { (result ≡ rule.lowest_free (seen view.now) view.now.layout.settings.records) × (result ≤ view.now.layout.settings.records) }
+// The lowest free record, if there is one.
+pub fn lowest_free(view: &View<'_>) -> Option<usize>
+    ensures { MatchOption result (rule.lowest_free (seen view.now) view.now.layout.settings.records ≡ 0) (λ p. (p ≡ rule.lowest_free (seen view.now) view.now.layout.settings.records) × (1 ≤ p) × (p ≤ view.now.layout.settings.records)) }
 {
     let statuses = view.section(Kind::Status);
     let passed = without_zero(statuses);
-    match first_zero(&statuses[passed..]) {
-        Some(i) => passed + i + 1,
-        None => 0,
-    }
+    let i = first_zero(&statuses[passed..])?;
+    Some(passed + i + 1)
 }

@@ -42,7 +42,7 @@ fn admit(view: &View<'_>, op: Operation, step: Step) -> Result<(), Why>
     if view.layout.settings.threads <= t {
         return Err(Why::NoSuchThread);
     }
-    if refusals::wrong_operand(view.layout, op, step) {
+    if refusals::wrong_operand(view.layout.settings, op, step) {
         return Err(Why::OperandBeyond);
     }
     if (view.word(Kind::Handler, t, 0) != 0) & (op != Operation::Handle) {

@@ -6,13 +6,13 @@ use Rattle.image.proofs.sizes.Sizes.total.Goals as goal
 pub loop-n-init : goal.loop-n-init
 loop-n-init c = start_none _
 
-pub overflow_add-p : goal.overflow_add-p
-overflow_add-p c =
+pub overflow_add-words : goal.overflow_add-words
+overflow_add-words c =
     let z = c.args.self.now in
     omega (arith, sum_fits z.settings _ z.limits c.loop-n-test.true z.sections_are c.loop-n.invariant)
 
-pub overflow_add-p-in-loop-n : goal.overflow_add-p-in-loop-n
-overflow_add-p-in-loop-n c =
+pub overflow_add-words-in-loop-n : goal.overflow_add-words-in-loop-n
+overflow_add-words-in-loop-n c =
     let z = c.args.self.now in
     omega (arith, sum_fits z.settings _ z.limits c.loop-n-test.true z.sections_are c.loop-n.invariant)
 

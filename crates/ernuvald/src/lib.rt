@@ -13,7 +13,7 @@ ghost use Rattle.rules.specs.ListQuestion.{list_number, list_from, list_many};
 
 use rules::{Settings, Step};
 
-// What a step answers.
+// What a step answers: for C number and value stand side by side.
 #[repr(C)]
 #[derive(Clone, Copy)]
 pub struct Reply {
@@ -21,7 +21,7 @@ pub struct Reply {
     pub value: u32,
 }
 
-// What the list question answers: its number, and where the part begins and how long it is, in words.
+// What the list question answers, for C side by side: its number, and where the part begins and how long it is, in words.
 #[repr(C)]
 #[derive(Clone, Copy)]
 pub struct Part {
@@ -30,7 +30,7 @@ pub struct Part {
     pub length: u32,
 }
 
-// How many words an image of these settings has, 0 where they are refused.
+// How many words an image of these settings has, 0 where they are refused. The settings come one by one, as C has them.
 #[unsafe(no_mangle)]
 pub extern "C" fn ernuvald_words(
     threads: u32,

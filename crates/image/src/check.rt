@@ -9,7 +9,7 @@ ghost use Rattle.rules.specs.Replies.{phase_number};
 ghost use Rattle.image.specs.Views.{seen};
 
 use super::view::View;
-use rules::{Kind, Phase, Settings};
+use rules::{Kind, Phase, Settings, Status};
 
 // Each word of a run is at most b.
 fn run_at_most(words: &[u32], b: u32) -> bool
@@ -44,7 +44,7 @@ fn at_most(words: &[u32], b: u32) -> bool
     both_at_most(low, high, b) & run_at_most(last, b)
 }
 
-// None of the words is 0.
+// None of the words is 0. This loop and the two before it differ in their test; as a parameter it would need a trait that says what it computes.
 fn none_zero(words: &[u32]) -> bool
     ensures { result ≡ all (length words.now) (λ i. not (eqb (get_or words.now i 0) 0)) }
 {
@@ -123,7 +123,7 @@ impl View<'_> {
     fn statuses_right(&self) -> bool
         ensures { result ≡ image.statuses_right self.now.layout.settings (seen self.now) }
     {
-        at_most(self.section(Kind::Status), 2)
+        at_most(self.section(Kind::Status), Status::Retired as u32)
     }
 
     fn marks_right(&self) -> bool

@@ -38,7 +38,7 @@ pub fn settings(words: &[u32]) -> Settings
     Settings::from([words[1], words[2], words[3], words[4], words[5], words[6]])
 }
 
-// How many words stand before each section: the counts before it are added up.
+// How many words stand before each section: the counts before it are added up. Each count tells where the next one stands, so that there is no part to walk.
 fn starts(words: &[u32]) -> [usize; 12]
     requires { Shaped words.now }
     ensures { (k : ℕ) → k ≤ whole.sections → get_or result k 0 ≡ whole.start (of.settings words.now) k }

@@ -35,7 +35,7 @@ pub fn legal(s: Settings) -> bool
         & (s.start < 4294967296)
 }
 
-// The list room.
+// The list room. It and the sections are worked out before there are sizes that could carry the limits.
 pub(crate) fn room(s: Settings) -> usize
     requires { Limits s }
     ensures { result ≡ of.room s }

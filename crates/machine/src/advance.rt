@@ -11,7 +11,7 @@ ghost use Rattle.machine.specs.Rows.{row_of};
 
 use super::searches;
 use image::view::{Image, View};
-use rules::{Kind, Phase, Reply};
+use rules::{Kind, Phase, Reply, Status};
 
 // After item i of n: to the next item, or to the next phase.
 fn onward(image: &mut Image<'_>, t: usize, i: usize, n: usize, next: Phase)
@@ -150,7 +150,7 @@ fn free(image: &mut Image<'_>, t: usize) -> Reply
         freed_on(image, t, i, n, k + 1);
         Ok(2)
     } else {
-        image.set(Kind::Status, p as usize, 0, 0);
+        image.set(Kind::Status, p as usize, 0, Status::Free as u32);
         freed_on(image, t, i, n, k);
         Ok(3)
     }

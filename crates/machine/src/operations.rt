@@ -1,4 +1,5 @@
 // The operations but advance. Each meets the rows of the table of replies that are its own, then does what its rule says.
+// A thread's number t stands beside the image: its bound ties the two, and a type that held both would say no less in each clause.
 ghost use Rattle.std.specs.Prelude.{◌≡◌, ℕ, ◌+◌, ◌<◌, ◌≤◌, false, not, ◌&&◌, ◌||◌, [], ◌∷◌, ◌==◌};
 ghost use Rattle.rules.specs.Settings as of;
 ghost use Rattle.rules.specs.State.{u, v, list_length, held, handler, pending, status, when, phase≔, u≔};
@@ -12,7 +13,7 @@ ghost use Rattle.machine.specs.Answers.{Answered};
 
 use super::searches;
 use image::view::{Image, View};
-use rules::{Kind, Phase, Reply, Why};
+use rules::{Kind, Phase, Reply, Status, Why};
 
 // 0
 pub fn allocate(image: &mut Image<'_>) -> Reply
@@ -21,7 +22,7 @@ pub fn allocate(image: &mut Image<'_>) -> Reply
     let Some(p) = searches::lowest_free(&image.view()) else {
         return Err(Why::NoneFree);
     };
-    image.set(Kind::Status, p, 0, 1);
+    image.set(Kind::Status, p, 0, Status::Live as u32);
     Ok(p as u32)
 }
 
@@ -30,7 +31,7 @@ fn dead(view: &View<'_>, c: u32) -> bool
     requires { c ≤ view.now.layout.settings.records }
     ensures { result ≡ (not (c == 0) && not (status (seen view.now) c == 1)) }
 {
-    c != 0 && view.word(Kind::Status, c as usize, 0) != 1
+    c != 0 && view.word(Kind::Status, c as usize, 0) != Status::Live as u32
 }
 
 // 1: cell a, expected b, new c
@@ -138,7 +139,7 @@ fn append(image: &mut Image<'_>, t: usize, a: u32, n: u32)
     ensures { Wrote image.old image.new (rule.retire image.old.layout.settings (state image.old) t a).writes }
 {
     let threshold = image.layout.settings.threshold;
-    image.set(Kind::Status, a as usize, 0, 2);
+    image.set(Kind::Status, a as usize, 0, Status::Retired as u32);
     image.set(Kind::Entry, t, n as usize, a);
     image.set(Kind::Length, t, 0, n + 1);
     begin_if(image, threshold <= n as usize + 1, t);
@@ -150,7 +151,7 @@ pub fn retire(image: &mut Image<'_>, t: usize, a: u32) -> Reply
     ensures { Answered image.old image.new result (checked ((8 if not (status (state image.old) a == 1)) ∷ (9 if rule.named image.old.layout.settings (state image.old) a) ∷ (10 if list_length (state image.old) t == of.room image.old.layout.settings) ∷ []) (rule.retire image.old.layout.settings (state image.old) t a)) }
 {
     let view = image.view();
-    if view.word(Kind::Status, a as usize, 0) != 1 {
+    if view.word(Kind::Status, a as usize, 0) != Status::Live as u32 {
         return Err(Why::NotLive);
     }
     if searches::named(&view, a) {

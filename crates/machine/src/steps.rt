@@ -12,7 +12,7 @@ use super::{advance, operations, refusals};
 use image::view::{Image, View};
 use rules::{Kind, Operation, Phase, Reply, Step, Why};
 
-// The operation, past the rows of the table that belong to none.
+// The operation, past the rows of the table that belong to none: a match and no table of functions, as each takes its own operands.
 fn perform(image: &mut Image<'_>, op: Operation, step: Step) -> Reply
     requires { (op_number op ≡ step.op) × (Sound image.old.layout.settings (state image.old)) × (Admitted image.old.layout.settings (state image.old) step) }
     ensures { Answered image.old image.new result (rule.answer image.old.layout.settings (state image.old) step) }

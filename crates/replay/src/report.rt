@@ -5,6 +5,7 @@ ghost use Rattle.replay.specs.Tally.{Low, counted_in, header, nothing};
 
 use super::text;
 use super::text::Text;
+use rules::Operation;
 
 // The sums of the total.
 #[derive(Clone, Copy, Default)]
@@ -23,7 +24,7 @@ impl Tally {
     {
         self.accepted += u32::from(number == 0);
         self.refused += u32::from(number != 0);
-        self.freed += u32::from(op == 8 && number == 0 && value == 3);
+        self.freed += u32::from(op == Operation::Advance as u32 && number == 0 && value == 3);
     }
 }
 

@@ -58,7 +58,7 @@ fn run(schedule: Schedule, image: &mut [u32]) -> Text
     steps(schedule, image).end()
 }
 
-// The report of a schedule. No image has more words than this buffer.
+// The report of a schedule. No image has more words than this buffer, which is no Vec, as a replay can't fail.
 pub fn report(schedule: Schedule) -> Text
     ensures { result.bytes ≡ program.report (program.given_settings schedule.entry.bytes.now) (program.given_steps schedule.entry.bytes.now) }
 {

@@ -93,6 +93,14 @@ pub enum Kind {
     Scanned,
 }
 
+// Document 01, The image: what a record is.
+#[derive(Clone, Copy, Debug, PartialEq, Eq)]
+pub enum Status {
+    Free,
+    Live,
+    Retired,
+}
+
 // Why a step is refused: document 01, Replies by number, 1 to 11.
 #[derive(Clone, Copy, Debug, PartialEq, Eq)]
 pub enum Why {

@@ -17,8 +17,7 @@ fn set_up(words: &mut [u32], settings: [u32; 6]) -> u32 {
 
 // Takes a step, and gives number and value of its reply. The five words: thread, operation, a, b, c.
 fn step(image: &mut [u32], five: [u32; 5]) -> (u32, u32) {
-    let [thread, op, a, b, c] = five;
-    let reply = machine::step(image, Step { thread, op, a, b, c });
+    let reply = machine::step(image, Step::from(five));
     (rules::number(reply), rules::value(reply))
 }
 

@@ -78,7 +78,7 @@ pub extern "C" fn ernuvald_step(
 ) -> Reply
     ensures { outcome result.number result.value image.new ≡ step image.old (step_of thread op a b c) }
 {
-    let reply = machine::step(image, Step { thread, op, a, b, c });
+    let reply = machine::step(image, Step::from([thread, op, a, b, c]));
     Reply {
         number: rules::number(reply),
         value: rules::value(reply),

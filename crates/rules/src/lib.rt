@@ -3,7 +3,7 @@
 
 ghost use Rattle.std.specs.Prelude.{◌≡◌, slice_index};
 ghost use Rattle.rules.specs.Settings.{settings_of};
-ghost use Rattle.rules.specs.Replies.{number_of, value_of, why_number, no_set_up_number, NamesOperation, NamesPhase};
+ghost use Rattle.rules.specs.Replies.{step_of, number_of, value_of, why_number, no_set_up_number, NamesOperation, NamesPhase};
 
 // Document 01, Settings: T, H, C, R, F and S.
 #[derive(Clone, Copy)]
@@ -41,6 +41,22 @@ pub struct Step {
     pub a: u32,
     pub b: u32,
     pub c: u32,
+}
+
+// The five words in their order.
+impl From<[u32; 5]> for Step {
+    ghost from_gives = { λ ws s. s ≡ step_of (slice_index ws 0) (slice_index ws 1) (slice_index ws 2) (slice_index ws 3) (slice_index ws 4) };
+
+    fn from(words: [u32; 5]) -> Step {
+        let [thread, op, a, b, c] = words;
+        Step {
+            thread,
+            op,
+            a,
+            b,
+            c,
+        }
+    }
 }
 
 // Document 01, Steps: the operations 0 to 10.

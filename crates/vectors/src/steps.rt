@@ -17,13 +17,13 @@ pub struct SingleStep {
 }
 
 fn read_step<F: Read>(source: &mut Source<F>) -> Result<Step, Stop> {
-    Ok(Step {
-        thread: source.word()?,
-        op: source.word()?,
-        a: source.word()?,
-        b: source.word()?,
-        c: source.word()?,
-    })
+    Ok(Step::from([
+        source.word()?,
+        source.word()?,
+        source.word()?,
+        source.word()?,
+        source.word()?,
+    ]))
 }
 
 // Takes a step: number and value of its reply, as the file has them.

@@ -44,7 +44,7 @@ pub(crate) fn room(s: Settings) -> usize
 }
 
 // The words of each section.
-fn sections(s: Settings) -> [usize; 11]
+pub fn sections(s: Settings) -> [usize; 11]
     requires { Limits s }
     ensures { result ≡ whole.sizes s }
 {

@@ -53,11 +53,12 @@ set_up_said (Err WrongLength) (Ok y) a e = absurd (omega (arith, e))
 set_up_said (Err WrongLength) (Err SettingBeyond) a e = absurd (omega (arith, e))
 set_up_said (Err WrongLength) (Err WrongLength) a e = refl
 
-pub set_up_reply_equal : {A : Type 0} → ((x y : A) → x ≡ y) → (S : Settings) (I : List ℕ) (r r' : Result A NoSetUp) {J J' : List ℕ}
+-- the same as the function has it, a result that holds nothing
+pub set_up_reply_equal : (S : Settings) (I : List ℕ) (r r' : Result (Unit {0}) NoSetUp) {J J' : List ℕ}
     → outcome (set_up_number_of r) 0 J ≡ set_up S I → outcome (set_up_number_of r') 0 J' ≡ set_up S I → (r ≡ r') × (J ≡ J')
-set_up_reply_equal a S I r r' p q =
+set_up_reply_equal S I r r' p q =
     let e = set_up_equal S I p q in
-    (set_up_said r r' a e.0, e.1)
+    (set_up_said r r' (λ x y. refl) e.0, e.1)
 
 -- what a reply says in numbers tells which it is
 abbrev why_of : ℕ → Why
@@ -108,8 +109,8 @@ pub retired_at_reply_equal : (I : List ℕ) (t : ℕ) (r r' : Result Part Why)
     → (number_of r' ≡ list_number I t) × (from_of r' ≡ list_from I t) × (length_of r' ≡ list_many I t) → r ≡ r'
 retired_at_reply_equal I t r r' p q = part_said r r' (p.0 ∙ sym q.0) (p.1 ∙ sym q.1) (p.2 ∙ sym q.2)
 
--- For C: ernuvald_words, ernuvald_set_up and ernuvald_retired ensure what words_needed, set_up and retired_at do. A step's
--- reply is two numbers there, and damage is one.
+-- For C: ernuvald_words ensures what words_needed does; set_up_equal and retired_at_equal are those of ernuvald_set_up and
+-- ernuvald_retired, whose replies are numbers. A step's reply is two numbers there, and damage is one.
 pub exported_step_equal : (I : List ℕ) (s : Step) {n n' x x' : ℕ} {J J' : List ℕ} → outcome n x J ≡ step I s
     → outcome n' x' J' ≡ step I s → (n ≡ n') × (x ≡ x') × (J ≡ J')
 exported_step_equal I s p q = parts p q
@@ -117,7 +118,7 @@ exported_step_equal I s p q = parts p q
 pub exported_damaged_equal : (I : List ℕ) {r r' : ℕ} → r ≡ bit (damaged I) → r' ≡ bit (damaged I) → r ≡ r'
 exported_damaged_equal I p q = p ∙ sym q
 
--- the reply is an enum of the crate that has the function: all written, or the buffer too short
+-- the reply is a result of the crate that has the function: how much was written, or the buffer too short
 pub replay_equal : {W : Type 0} (all : ℕ → W) (short : W) (I O : List ℕ) {r r' : W} {P P' : List ℕ}
     → (r ≡ cond (leb (length (output I)) (length O)) (all (length (output I))) short) × (P ≡ shown (output I) O)
     → (r' ≡ cond (leb (length (output I)) (length O)) (all (length (output I))) short) × (P' ≡ shown (output I) O)

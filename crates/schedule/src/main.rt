@@ -1,27 +1,33 @@
-// The schedule program: a schedule on standard input, its replies on standard output.
+// The schedule program: a schedule on standard input, its replies on standard output. It has no heap, and calls nothing of the C library but read and write.
 #![tactic(auto)]
 
-use std::alloc::{AllocError, Global};
+ghost use Rattle.std.specs.Prelude.{◌≤◌, length, IfOk};
+
 use std::io;
 use std::io::{Read, Write};
 
-// One byte more than the longest schedule has, so that an input of so many bytes or more is none.
-const MOST: u64 = 20033;
-
-// The longest output has so many bytes.
-const ROOM: usize = 44075;
-
-// What is written for an input.
-fn output(alloc: Global, input: &[u8]) -> Result<Vec<u8>, AllocError> {
-    let mut out = vec![in alloc; 0; ROOM]?;
-    let n = replay::replay(input, &mut out).unwrap_or(0);
-    out.truncate(n);
-    Ok(out)
+// Reads until the buffer is full or the input ends; how many bytes it put at the buffer's start. A loop, and a count beside the buffer: std's `read_to_end` fills a Vec, and that is on the heap.
+fn read_full(input: &mut impl Read, buffer: &mut [u8]) -> io::Result<usize>
+    ensures { IfOk result (λ n. n ≤ length buffer.new) }
+{
+    let mut n = 0;
+    while n < buffer.len() {
+        let more = input.read(&mut buffer[n..])?;
+        if more == 0 {
+            break;
+        }
+        n += more;
+    }
+    Ok(n)
 }
 
+// The longest schedule has 20,032 bytes, so that an input that fills this buffer is none.
 fn main(rt: HostRuntime) -> io::Result<()> {
-    let mut input = Vec::new(rt.alloc());
-    rt.stdin().take(MOST).read_to_end(&mut input)?;
-    let out = output(rt.alloc(), &input)?;
-    rt.stdout().write_all(&out)
+    let mut input = [0; 20033];
+    let n = read_full(&mut rt.stdin(), &mut input)?;
+    let mut out = [0; 44075];
+    if let Ok(k) = replay::replay(&input[..n], &mut out) {
+        rt.stdout().write_all(&out[..k])?;
+    }
+    Ok(())
 }

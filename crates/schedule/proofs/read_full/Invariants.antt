@@ -1,0 +1,9 @@
+-- No more is read than the buffer holds, and each turn but the last reads something.
+use Rattle.std.proofs.Common.{length, ◌-◌, ◌≤◌}
+use Rattle.schedule.proofs.read_full.Given as goal
+
+abbrev pub invariant-loop-n : goal.invariant-loop-n
+invariant-loop-n g l = l.n ≤ length l.buffer
+
+abbrev pub decreases-loop-n : goal.decreases-loop-n
+decreases-loop-n g l = length l.initial.buffer - l.n

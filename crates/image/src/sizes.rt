@@ -17,6 +17,7 @@ pub struct Sizes {
     pub ghost sections_are: { sections ≡ whole.sizes settings },
 }
 
+// x is from a to b. `(a..=b).contains(&x)` says no more, and its contract speaks of an order's answers in place of `≤`.
 fn from_to(a: usize, b: usize, x: usize) -> bool
     ensures { result ≡ test.from_to a b x }
 {

@@ -39,13 +39,6 @@ start_none S = refl
 pub start_more : (S : Settings) (k : ℕ) {p n : ℕ} → p ≡ start S k → n ≡ size S k → p + (1 + n) ≡ start S (k + 1)
 start_more S k e q = rw (e, q) (sym (section_end S k))
 
--- a start, as a number that fits
-pub start_fits : (S : Settings) (k : ℕ) {q : ℕ} → Limits S → k ≤ sections → q ≡ start S k → q ≤ 8209
-start_fits S k l h e = elim (sep k sections) [
-  | same s _ ↦ omega (arith, words_most l, ap (start S) s)
-  | diff s _ ↦ omega (arith, words_most l, start_apart S k sections (omega arith))
-]
-
 -- a product with the list room as the code has it
 pub lists_fit : {S : Settings} {l : ℕ} → Limits S → l ≡ room S → S.threads * (l + 1) ≤ 4112
 lists_fit h e = rw e (lists_most h)

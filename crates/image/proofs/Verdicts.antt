@@ -8,16 +8,12 @@ use Rattle.rules.specs.declared.Settings.{Settings}
 use Rattle.rules.specs.Settings.{legal, settings}
 use Rattle.rules.specs.Image.{view}
 use Rattle.rules.specs.Damaged.{laid, right, damaged}
-use Rattle.rules.proofs.Limits.{Limits, legal_says}
 use Rattle.rules.proofs.Shaped.{Shaped, shaped_says, undamaged_shaped, undamaged_illegal, undamaged_unlaid, undamaged_short}
 
 pub short : (I : List ℕ) → length I < 7 → true ≡ damaged I
 short I h = ap not (sym (undamaged_short I h))
 
 module _ (I : List ℕ) {S : Settings} {b : Bool} (e : S ≡ settings I) (d : b ≡ legal S) where
-  pub limits : b ≡ true → Limits S
-  limits h = legal_says S (sym d ∙ h)
-
   legal_is : b ≡ legal (settings I)
   legal_is = d ∙ ap legal e
 

@@ -1,4 +1,4 @@
-// The damage check: a plain loop a rule, each over one run of words.
+// The damage check: a plain loop a rule, over a run of words or over two side by side.
 ghost use Rattle.std.specs.Prelude.{◌≡◌, not, ◌&&◌, ◌||◌, ℕ, ◌+◌, ◌*◌, ◌<◌, ◌≤◌, length, get_or, eqb, leb};
 ghost use Rattle.rules.specs.Tests.{all};
 ghost use Rattle.rules.specs.Settings as of;
@@ -17,7 +17,7 @@ fn run_at_most(words: &[u32], b: u32) -> bool
 {
     let mut ok = true;
     for word in words {
-        ok = ok & (*word <= b);
+        ok &= *word <= b;
     }
     ok
 }
@@ -44,13 +44,13 @@ fn at_most(words: &[u32], b: u32) -> bool
     both_at_most(low, high, b) & run_at_most(last, b)
 }
 
-// None of the words is 0. This loop and the two before it differ in their test; as a parameter it would need a trait that says what it computes.
+// None of the words is 0. It and `run_at_most` are one loop each with another test: with a closure for the test the clause would speak of what a closure answers at each word, and not of the test.
 fn none_zero(words: &[u32]) -> bool
     ensures { result ≡ all (length words.now) (λ i. not (eqb (get_or words.now i 0) 0)) }
 {
     let mut ok = true;
     for word in words {
-        ok = ok & (*word != 0);
+        ok &= *word != 0;
     }
     ok
 }
@@ -62,7 +62,7 @@ fn beside(marks: &[u32], slots: &[u32]) -> bool
 {
     let mut ok = true;
     for (mark, slot) in marks.iter().zip(slots) {
-        ok = ok & ((*mark == 0) | (*slot != 0));
+        ok &= (*mark == 0) | (*slot != 0);
     }
     ok
 }
@@ -104,7 +104,7 @@ impl View<'_> {
     {
         let mut ok = true;
         for t in 0..self.layout.settings.threads {
-            ok = ok & at_most(self.row(Kind::Entry, t), b);
+            ok &= at_most(self.row(Kind::Entry, t), b);
         }
         ok
     }
@@ -176,12 +176,13 @@ impl View<'_> {
     {
         let mut ok = true;
         for t in 0..self.layout.settings.threads {
-            ok = ok & self.thread_right(t);
+            ok &= self.thread_right(t);
         }
         ok
     }
 
     // Whether all words are right.
+    #[tactic(auto, unfolding(rules::specs::Damaged::right))]
     pub fn right(&self) -> bool
         ensures { result ≡ image.right self.now.layout.settings (seen self.now) }
     {

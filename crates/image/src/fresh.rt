@@ -8,7 +8,7 @@ ghost use Rattle.image.specs.Filled.{Filled, Begun};
 use super::sizes::Sizes;
 use rules::Settings;
 
-// The section of the publish counts.
+// The section of the publish counts, a number as in the layout table.
 const COUNTS: usize = 6;
 
 // The words from p on: n, and n times x.
@@ -43,10 +43,9 @@ pub fn put_sections(words: &mut [u32], sizes: &Sizes)
 {
     let start = sizes.settings.start as u32;
     let mut p = 7;
-    for k in 1..11 {
-        let n = sizes.sections[k];
-        fill(words, p, n, word_of(k, start));
-        p += 1 + n;
+    for (i, n) in sizes.sections[1..].iter().enumerate() {
+        fill(words, p, *n, word_of(i + 1, start));
+        p += 1 + *n;
     }
 }
 

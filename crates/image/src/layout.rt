@@ -31,6 +31,7 @@ pub(crate) struct Lay {
 }
 
 // The settings of an image: its words after the first count.
+#[tactic(auto, unfolding(rules::specs::Settings::settings))]
 pub fn settings(words: &[u32]) -> Settings
     requires { 7 ≤ length words.now }
     ensures { result ≡ of.settings words.now }
@@ -38,7 +39,7 @@ pub fn settings(words: &[u32]) -> Settings
     Settings::from([words[1], words[2], words[3], words[4], words[5], words[6]])
 }
 
-// How many words stand before each section: the counts before it are added up. Each count tells where the next one stands, so that there is no part to walk.
+// How many words stand before each section: the counts before it are added up. Each count tells where the next one stands, and is noted for its section, so that there is no part to walk.
 fn starts(words: &[u32]) -> [usize; 12]
     requires { Shaped words.now }
     ensures { (k : ℕ) → k ≤ whole.sections → get_or result k 0 ≡ whole.start (of.settings words.now) k }

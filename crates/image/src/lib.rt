@@ -36,7 +36,7 @@ pub fn damaged(words: &[u32]) -> bool
     !View { words, layout }.right()
 }
 
-// How many words an image of these settings has, 0 where they are refused: a number and no Option, as the definition `words_needed` has it.
+// How many words an image of these settings has, 0 where they are refused: a number and no Option, which the clause and `words_needed_equal` hold.
 pub fn words_needed(settings: Settings) -> usize
     ensures { result ≡ rule.words_needed settings }
 {

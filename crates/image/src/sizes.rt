@@ -25,6 +25,7 @@ fn from_to(a: usize, b: usize, x: usize) -> bool
 }
 
 // Whether each setting is within its limits.
+#[tactic(auto, unfolding(rules::specs::Settings::legal))]
 pub fn legal(s: Settings) -> bool
     ensures { result ≡ of.legal s }
 {
@@ -37,6 +38,7 @@ pub fn legal(s: Settings) -> bool
 }
 
 // The list room. It and the sections are worked out before there are sizes that could carry the limits.
+#[tactic(auto, unfolding(rules::specs::Settings::room))]
 pub(crate) fn room(s: Settings) -> usize
     requires { Limits s }
     ensures { result ≡ of.room s }
@@ -105,7 +107,7 @@ impl Sizes {
         let mut ok = true;
         let mut p = 0;
         for n in &self.sections {
-            ok = ok & (words[p] as usize == *n);
+            ok &= words[p] as usize == *n;
             p += 1 + *n;
         }
         ok

@@ -1,4 +1,4 @@
-// Reading a word, a section's words, a row's words; and writing a word.
+// Reading a word, a section's words, a row's words; and writing a word. Kind, row and place stand as in the definitions' state and `to`, which hold them.
 ghost use Rattle.std.specs.Prelude.{◌≡◌, ◌<◌, ◌≤◌, ◌+◌, [], ◌∷◌};
 ghost use Rattle.rules.specs.Image as whole;
 ghost use Rattle.rules.specs.State.{to, when};
@@ -64,7 +64,7 @@ impl Image<'_> {
         self.words[p] = word;
     }
 
-    // Writes it where `on` holds.
+    // Writes it where `on` holds: a test beside the word, as the definitions' `when` is.
     #[inline]
     pub fn set_if(&mut self, on: bool, kind: Kind, i: usize, j: usize, word: u32)
         requires { Valid self.old.layout.settings kind i j }

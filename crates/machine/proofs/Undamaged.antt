@@ -74,9 +74,6 @@ module _ (I : List ℕ) where
   ]
 
   module _ (t : ℕ) {n : ℕ} (e : n ≡ list_number I t) where
-    pub asked_shaped : n ≡ 0 → Shaped I
-    asked_shaped h = (undamaged_says I (not-false _ (asked t (sym e ∙ h)).0)).0
-
     module _ (l : Layout) (h : n ≡ 0) (q : l.settings ≡ settings I) where
       pub asked_thread : t < l.settings.threads
       asked_thread = rw q (asked t (sym e ∙ h)).1

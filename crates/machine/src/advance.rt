@@ -1,4 +1,4 @@
-// Advance, phase by phase.
+// Advance, phase by phase. A thread's number stands beside the image, as in the other operations.
 ghost use Rattle.std.specs.Prelude.{◌≡◌, ℕ, ◌+◌, ◌*◌, ◌<◌, ◌≤◌, length};
 ghost use Rattle.rules.specs.Settings as of;
 ghost use Rattle.rules.specs.State.{phase, u, v, entry};
@@ -14,6 +14,7 @@ use image::view::{Image, View};
 use rules::{Kind, Phase, Reply, Status};
 
 // After item i of n: to the next item, or to the next phase.
+#[tactic(auto, unfolding(rules::specs::Advance::onward))]
 fn onward(image: &mut Image<'_>, t: usize, i: usize, n: usize, next: Phase)
     requires { (t < image.old.layout.settings.threads) × (i < 4294967295) }
     ensures { Wrote image.old image.new (rule.onward t i n (phase_number next)) }
@@ -26,7 +27,8 @@ fn onward(image: &mut Image<'_>, t: usize, i: usize, n: usize, next: Phase)
     }
 }
 
-// Phase 3.
+// Phase 3, collecting.
+#[tactic(auto, unfolding(rules::specs::Advance::collect))]
 fn collect(image: &mut Image<'_>, t: usize) -> Reply
     requires { (t < image.old.layout.settings.threads) × (u (state image.old) t < image.old.layout.settings.threads) }
     ensures { Answered image.old image.new result (rule.collect image.old.layout.settings (state image.old) t) }
@@ -40,7 +42,8 @@ fn collect(image: &mut Image<'_>, t: usize) -> Reply
     Ok(1)
 }
 
-// Phase 4.
+// Phase 4, pinging.
+#[tactic(auto, unfolding(rules::specs::Advance::ping))]
 fn ping(image: &mut Image<'_>, t: usize) -> Reply
     requires { (t < image.old.layout.settings.threads) × (u (state image.old) t < image.old.layout.settings.threads) }
     ensures { Answered image.old image.new result (rule.ping image.old.layout.settings (state image.old) t) }
@@ -53,7 +56,8 @@ fn ping(image: &mut Image<'_>, t: usize) -> Reply
     Ok(1)
 }
 
-// Phase 5.
+// Phase 5, waiting.
+#[tactic(auto, unfolding(rules::specs::Advance::wait))]
 fn wait(image: &mut Image<'_>, t: usize) -> Reply
     requires { (t < image.old.layout.settings.threads) × (u (state image.old) t < image.old.layout.settings.threads) }
     ensures { Answered image.old image.new result (rule.wait image.old.layout.settings (state image.old) t) }
@@ -103,7 +107,8 @@ fn slot_seen(view: &View<'_>, t: usize, x: usize) -> u32
     row[x % slots]
 }
 
-// Phase 6.
+// Phase 6, scanning.
+#[tactic(auto, unfolding(rules::specs::Advance::scan))]
 fn scan(image: &mut Image<'_>, t: usize) -> Reply
     requires { (t < image.old.layout.settings.threads) × (u (state image.old) t < of.all_slots image.old.layout.settings) }
     ensures { Answered image.old image.new result (rule.scan image.old.layout.settings (state image.old) t) }
@@ -118,6 +123,7 @@ fn scan(image: &mut Image<'_>, t: usize) -> Reply
 }
 
 // After entry i of n, k of them kept: to the next entry, or the reclaim ends.
+#[tactic(auto, unfolding(rules::specs::Advance::freed_on))]
 fn freed_on(image: &mut Image<'_>, t: usize, i: usize, n: usize, k: u32)
     requires { (t < image.old.layout.settings.threads) × (i < 4294967295) }
     ensures { Wrote image.old image.new (rule.freed_on t i n k) }
@@ -133,7 +139,7 @@ fn freed_on(image: &mut Image<'_>, t: usize, i: usize, n: usize, k: u32)
     }
 }
 
-// Phase 7.
+// Phase 7, freeing.
 fn free(image: &mut Image<'_>, t: usize) -> Reply
     requires { (t < image.old.layout.settings.threads) × (u (state image.old) t < image.old.layout.room) × (v (state image.old) t ≤ u (state image.old) t) × (1 ≤ entry (state image.old) t (u (state image.old) t)) × (entry (state image.old) t (u (state image.old) t) ≤ image.old.layout.settings.records) }
     ensures { Answered image.old image.new result (rule.free image.old.layout.settings (state image.old) t) }
@@ -156,7 +162,8 @@ fn free(image: &mut Image<'_>, t: usize) -> Reply
     }
 }
 
-// 8, where the thread's phase is one from 3 on
+// 8, advance, where the thread's phase is one from 3 on
+#[tactic(auto, unfolding(rules::specs::Advance::advance))]
 pub fn advance(image: &mut Image<'_>, t: usize) -> Reply
     requires { (t < image.old.layout.settings.threads) × (3 ≤ phase (state image.old) t) × (Thread image.old.layout.settings (state image.old) t) × ((i : ℕ) → i < image.old.layout.room → entry (state image.old) t i ≤ image.old.layout.settings.records) }
     ensures { Answered image.old image.new result (rule.advance image.old.layout.settings (state image.old) t) }
@@ -167,6 +174,7 @@ pub fn advance(image: &mut Image<'_>, t: usize) -> Reply
         Phase::Pinging => ping(image, t),
         Phase::Waiting => wait(image, t),
         Phase::Scanning => scan(image, t),
-        Phase::Freeing | Phase::Idle | Phase::Loaded | Phase::Reserved => free(image, t),
+        Phase::Freeing => free(image, t),
+        Phase::Idle | Phase::Loaded | Phase::Reserved => unreachable!(),
     }
 }

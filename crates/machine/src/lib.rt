@@ -51,7 +51,7 @@ fn asked(image: &[u32], thread: u32) -> Result<View<'_>, Why>
     })
 }
 
-// The list question's number: 0, 1 or 3. Document 01 asks for the number, which the contract's `list_number` is.
+// The list question's number: 0, 1 or 3. A number, as document 01 asks for it; the clause and `retired_number_equal` hold it.
 pub fn retired_number(image: &[u32], thread: u32) -> u32
     ensures { result ≡ question.list_number image.now thread }
 {

@@ -1,5 +1,5 @@
 // The operations but advance. Each meets the rows of the table of replies that are its own, then does what its rule says.
-// A thread's number t stands beside the image: its bound ties the two, and a type that held both would say no less in each clause.
+// A thread's number t stands beside the image with its bound, as an index does: a type of both would be taken apart in each operation to reach the image, and where another thread's words are touched too the bound would stand there still.
 ghost use Rattle.std.specs.Prelude.{◌≡◌, ℕ, ◌+◌, ◌<◌, ◌≤◌, false, not, ◌&&◌, ◌||◌, [], ◌∷◌, ◌==◌};
 ghost use Rattle.rules.specs.Settings as of;
 ghost use Rattle.rules.specs.State.{u, v, list_length, held, handler, pending, status, when, phase≔, u≔};
@@ -15,7 +15,8 @@ use super::searches;
 use image::view::{Image, View};
 use rules::{Kind, Phase, Reply, Status, Why};
 
-// 0
+// 0, allocate
+#[tactic(auto, unfolding(rules::specs::Operations::allocate))]
 pub fn allocate(image: &mut Image<'_>) -> Reply
     ensures { Answered image.old image.new result (checked ((7 if rule.lowest_free (state image.old) image.old.layout.settings.records == 0) ∷ []) (rule.allocate image.old.layout.settings (state image.old))) }
 {
@@ -34,7 +35,8 @@ fn dead(view: &View<'_>, c: u32) -> bool
     c != 0 && view.word(Kind::Status, c as usize, 0) != Status::Live as u32
 }
 
-// 1: cell a, expected b, new c
+// 1, swap: cell a, expected b, new c
+#[tactic(auto, unfolding(rules::specs::Operations::swap))]
 pub fn swap(image: &mut Image<'_>, a: u32, b: u32, c: u32) -> Reply
     requires { (a < image.old.layout.settings.cells) × (c ≤ image.old.layout.settings.records) }
     ensures { Answered image.old image.new result (checked ((8 if not (c == 0) && not (status (state image.old) c == 1) || false) ∷ []) (rule.swap (state image.old) a b c)) }
@@ -48,7 +50,8 @@ pub fn swap(image: &mut Image<'_>, a: u32, b: u32, c: u32) -> Reply
     Ok(u32::from(equal))
 }
 
-// 2: slot a, cell b
+// 2, load: slot a, cell b
+#[tactic(auto, unfolding(rules::specs::Operations::load))]
 pub fn load(image: &mut Image<'_>, t: usize, a: u32, b: u32) -> Reply
     requires { (t < image.old.layout.settings.threads) × (b < image.old.layout.settings.cells) }
     ensures { Answered image.old image.new result (rule.load (state image.old) t a b) }
@@ -61,7 +64,8 @@ pub fn load(image: &mut Image<'_>, t: usize, a: u32, b: u32) -> Reply
     Ok(record)
 }
 
-// 3
+// 3, reserve
+#[tactic(auto, unfolding(rules::specs::Operations::reserve))]
 pub fn reserve(image: &mut Image<'_>, t: usize) -> Reply
     requires { (t < image.old.layout.settings.threads) × (u (state image.old) t < image.old.layout.settings.slots) }
     ensures { Answered image.old image.new result (rule.reserve image.old.layout.settings (state image.old) t) }
@@ -76,6 +80,7 @@ pub fn reserve(image: &mut Image<'_>, t: usize) -> Reply
 }
 
 // Back to phase 0, operands 0.
+#[tactic(auto, unfolding(rules::specs::Operations::to_idle))]
 fn to_idle(image: &mut Image<'_>, t: usize)
     requires { t < image.old.layout.settings.threads }
     ensures { Wrote image.old image.new (rule.to_idle t) }
@@ -86,7 +91,8 @@ fn to_idle(image: &mut Image<'_>, t: usize)
     image.set(Kind::W, t, 0, 0);
 }
 
-// 4
+// 4, check
+#[tactic(auto, unfolding(rules::specs::Operations::check))]
 pub fn check(image: &mut Image<'_>, t: usize) -> Reply
     requires { (t < image.old.layout.settings.threads) × (u (state image.old) t < image.old.layout.settings.slots) × (v (state image.old) t < image.old.layout.settings.cells) }
     ensures { Answered image.old image.new result (rule.check image.old.layout.settings (state image.old) t) }
@@ -101,7 +107,8 @@ pub fn check(image: &mut Image<'_>, t: usize) -> Reply
     Ok(u32::from(equal))
 }
 
-// 5: slot a
+// 5, use: slot a
+#[tactic(auto, unfolding(rules::specs::Operations::use_slot))]
 pub fn use_slot(view: &View<'_>, t: usize, a: u32) -> Reply
     requires { (t < view.now.layout.settings.threads) × (a < view.now.layout.settings.slots) }
     ensures { outcome (number_of result) (value_of result) view.now.words.now ≡ after view.now.layout.settings view.now.words.now (checked ((11 if held (seen view.now) (of.slot view.now.layout.settings t a) == 0) ∷ []) (rule.use_slot view.now.layout.settings (seen view.now) t a)) }
@@ -113,7 +120,8 @@ pub fn use_slot(view: &View<'_>, t: usize, a: u32) -> Reply
     Ok(view.word(Kind::Private, slot, 0))
 }
 
-// 6: slot a
+// 6, clear: slot a
+#[tactic(auto, unfolding(rules::specs::Operations::clear))]
 pub fn clear(image: &mut Image<'_>, t: usize, a: u32) -> Reply
     requires { (t < image.old.layout.settings.threads) × (a < image.old.layout.settings.slots) }
     ensures { Answered image.old image.new result (rule.clear image.old.layout.settings t a) }
@@ -124,7 +132,7 @@ pub fn clear(image: &mut Image<'_>, t: usize, a: u32) -> Reply
     Ok(0)
 }
 
-// To phase 3, where `on` holds.
+// To phase 3, where `on` holds: a test beside the words, as the rule's `when` is.
 fn begin_if(image: &mut Image<'_>, on: bool, t: usize)
     requires { t < image.old.layout.settings.threads }
     ensures { Wrote image.old image.new (when on (phase≔ t collecting) ∷ when on (u≔ t 0) ∷ []) }
@@ -134,6 +142,7 @@ fn begin_if(image: &mut Image<'_>, on: bool, t: usize)
 }
 
 // Record a, retired, at place n of thread t's list.
+#[tactic(auto, unfolding(rules::specs::Operations::retire))]
 fn append(image: &mut Image<'_>, t: usize, a: u32, n: u32)
     requires { (t < image.old.layout.settings.threads) × (1 ≤ a) × (a ≤ image.old.layout.settings.records) × (n < image.old.layout.room) × (n ≡ list_length (state image.old) t) }
     ensures { Wrote image.old image.new (rule.retire image.old.layout.settings (state image.old) t a).writes }
@@ -145,7 +154,8 @@ fn append(image: &mut Image<'_>, t: usize, a: u32, n: u32)
     begin_if(image, threshold <= n as usize + 1, t);
 }
 
-// 7: record a
+// 7, retire: record a
+#[tactic(auto, unfolding(rules::specs::Operations::retire))]
 pub fn retire(image: &mut Image<'_>, t: usize, a: u32) -> Reply
     requires { (t < image.old.layout.settings.threads) × (1 ≤ a) × (a ≤ image.old.layout.settings.records) × (list_length (state image.old) t ≤ image.old.layout.room) }
     ensures { Answered image.old image.new result (checked ((8 if not (status (state image.old) a == 1)) ∷ (9 if rule.named image.old.layout.settings (state image.old) a) ∷ (10 if list_length (state image.old) t == of.room image.old.layout.settings) ∷ []) (rule.retire image.old.layout.settings (state image.old) t a)) }
@@ -165,7 +175,8 @@ pub fn retire(image: &mut Image<'_>, t: usize, a: u32) -> Reply
     Ok(n + 1)
 }
 
-// 9
+// 9, deliver
+#[tactic(auto, unfolding(rules::specs::Operations::deliver))]
 pub fn deliver(image: &mut Image<'_>, t: usize) -> Reply
     requires { t < image.old.layout.settings.threads }
     ensures { Answered image.old image.new result (checked ((6 if pending (state image.old) t == 0 || false) ∷ []) (rule.deliver t)) }
@@ -179,6 +190,7 @@ pub fn deliver(image: &mut Image<'_>, t: usize) -> Reply
 }
 
 // 10 at handler k, from 1 to H: a copy of slot k − 1.
+#[tactic(auto, unfolding(rules::specs::Operations::handle))]
 fn copy(image: &mut Image<'_>, t: usize, k: u32)
     requires { (t < image.old.layout.settings.threads) × (1 ≤ k) × (k ≤ image.old.layout.settings.slots) × (k ≡ handler (state image.old) t) }
     ensures { Wrote image.old image.new (rule.handle image.old.layout.settings (state image.old) t).writes }
@@ -190,6 +202,7 @@ fn copy(image: &mut Image<'_>, t: usize, k: u32)
 }
 
 // 10 past the last slot: the count, which after the largest becomes 0.
+#[tactic(auto, unfolding(rules::specs::Operations::handle))]
 fn count(image: &mut Image<'_>, t: usize)
     requires { (t < image.old.layout.settings.threads) × (image.old.layout.settings.slots < handler (state image.old) t) }
     ensures { Wrote image.old image.new (rule.handle image.old.layout.settings (state image.old) t).writes }
@@ -199,7 +212,8 @@ fn count(image: &mut Image<'_>, t: usize)
     image.set(Kind::Handler, t, 0, 0);
 }
 
-// 10
+// 10, handle
+#[tactic(auto, unfolding(rules::specs::Operations::handle))]
 pub fn handle(image: &mut Image<'_>, t: usize) -> Reply
     requires { t < image.old.layout.settings.threads }
     ensures { Answered image.old image.new result (checked ((6 if handler (state image.old) t == 0) ∷ []) (rule.handle image.old.layout.settings (state image.old) t)) }

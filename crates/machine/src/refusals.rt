@@ -1,4 +1,4 @@
-// The refusals 2 to 6 of the table of replies: which operands and which phases an operation takes.
+// Of the refusals of the table of replies, 4 and 6: which operands and which phases an operation takes.
 ghost use Rattle.std.specs.Prelude.{◌≡◌, ℕ, ◌<◌, slice_index};
 ghost use Rattle.rules.specs.Phases as table;
 ghost use Rattle.rules.specs.Replies.{op_number, phase_number};
@@ -24,6 +24,7 @@ const ALLOWED: [[bool; 8]; 11] = [
 ];
 
 // The phase allows the operation.
+#[tactic(auto, unfolding(rules::specs::Phases::allows, rules::specs::Phases::allowed))]
 pub fn allowed(op: Operation, phase: Phase) -> bool
     ensures { result ≡ table.allows (op_number op) (phase_number phase) }
 {
@@ -51,7 +52,7 @@ fn limits(s: Settings, op: Operation) -> [usize; 3]
     }
 }
 
-// An operand is beyond its limit, one that isn't listed isn't 0, or it is a retire of 0.
+// An operand is beyond its limit, one that isn't listed isn't 0, or it is a retire of 0. Of the settings no more is asked than their limits.
 pub fn wrong_operand(s: Settings, op: Operation, step: Step) -> bool
     requires { (Limits s) × (op_number op ≡ step.op) }
     ensures { result ≡ operand_wrong s step }

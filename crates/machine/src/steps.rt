@@ -1,4 +1,4 @@
-// A step on an image that is known to be undamaged.
+// A step on an image that is known to be undamaged. That it is, `Sound`, is asked for and no fact of the image: between the writes of an operation it doesn't hold. The operation by name stands beside the step, whose number it names.
 ghost use Rattle.std.specs.Prelude.{◌≡◌, MatchResult};
 ghost use Rattle.rules.specs.State.{refused};
 ghost use Rattle.rules.specs.Replies.{op_number, why_number};

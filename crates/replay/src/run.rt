@@ -58,7 +58,7 @@ fn run(schedule: Schedule, image: &mut [u32]) -> Text
     steps(schedule, image).end()
 }
 
-// The report of a schedule. No image has more words than this buffer, which is no Vec, as a replay can't fail.
+// The report of a schedule. No image has more words than this buffer, of which a part is lent: a vector of fixed capacity would be filled with words first to lend as many.
 pub fn report(schedule: Schedule) -> Text
     ensures { result.bytes ≡ program.report (program.given_settings schedule.entry.bytes.now) (program.given_steps schedule.entry.bytes.now) }
 {

@@ -71,11 +71,11 @@ pub fn step_at(input: &[u8], i: usize) -> Step
     ensures { result ≡ program.given_step input.now i }
 {
     let w = BEFORE + i * STEP;
-    Step {
-        thread: word(input, w),
-        op: word(input, w + 1),
-        a: word(input, w + 2),
-        b: word(input, w + 3),
-        c: word(input, w + 4),
-    }
+    Step::from([
+        word(input, w),
+        word(input, w + 1),
+        word(input, w + 2),
+        word(input, w + 3),
+        word(input, w + 4),
+    ])
 }

@@ -19,7 +19,7 @@ pub fn of_line(line: &str) -> Text
     text
 }
 
-// A number's digits, and what ends it.
+// A number's digits, and what ends it. No `write!`: that answers a Result of which no contract says that it is Ok, and a replay can't fail.
 #[tactic(auto, using(crate::proofs::Numbers::printed_decimal))]
 fn push_number(text: &mut Text, n: u32, end: &str)
     requires { length text.old.bytes + 10 + length end.now ≤ program.longest }

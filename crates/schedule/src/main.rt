@@ -1,4 +1,4 @@
-// The schedule program: a schedule on standard input, its replies on standard output. It has no heap, and calls nothing of the C library but read and write.
+// The schedule program: a schedule on standard input, its replies on standard output. It rests on two functions of the C library, read and write, and has no heap.
 #![tactic(auto)]
 
 ghost use Rattle.std.specs.Prelude.{◌≤◌, length, IfOk};
@@ -6,7 +6,7 @@ ghost use Rattle.std.specs.Prelude.{◌≤◌, length, IfOk};
 use std::io;
 use std::io::{Read, Write};
 
-// Reads until the buffer is full or the input ends; how many bytes it put at the buffer's start. A loop, and a count beside the buffer: std's `read_to_end` fills a Vec, and that is on the heap.
+// Reads until the buffer is full or the input ends; how many bytes it put at the buffer's start. A loop with a count beside the buffer, as nothing new is assumed: std's `read_to_end` fills a Vec, by three functions more of the C library.
 fn read_full(input: &mut impl Read, buffer: &mut [u8]) -> io::Result<usize>
     ensures { IfOk result (λ n. n ≤ length buffer.new) }
 {

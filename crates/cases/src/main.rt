@@ -9,10 +9,7 @@ use std::io;
 
 // Tries a set-up, and gives its number, by which document 01 names replies. The settings: threads, slots, cells, records, threshold, start.
 fn set_up(words: &mut [u32], settings: [u32; 6]) -> u32 {
-    match image::set_up(words, Settings::from(settings)) {
-        Ok(()) => 0,
-        Err(why) => u32::from(why),
-    }
+    image::set_up_number(image::set_up(words, Settings::from(settings)))
 }
 
 // Takes a step, and gives number and value of its reply. The five words: thread, operation, a, b, c.

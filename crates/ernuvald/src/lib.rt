@@ -60,10 +60,7 @@ pub extern "C" fn ernuvald_set_up(
     ensures { outcome result 0 image.new ≡ set_up (settings_of threads slots cells records threshold start) image.old }
 {
     let settings = Settings::from([threads, slots, cells, records, threshold, start]);
-    match image::set_up(image, settings) {
-        Ok(()) => 0,
-        Err(why) => u32::from(why),
-    }
+    image::set_up_number(image::set_up(image, settings))
 }
 
 // One step.

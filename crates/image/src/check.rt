@@ -98,7 +98,7 @@ fn line_right(s: Settings, l: Line) -> bool
 }
 
 impl View<'_> {
-    // Each entry of each list is at most b.
+    // Each entry of each list is at most b. The loop over the threads is that of `threads_right`; a test handed to one loop would hide both in a closure's clause.
     fn lists_at_most(&self, b: u32) -> bool
         ensures { result ≡ all self.now.layout.settings.threads (λ t. all (of.room self.now.layout.settings) (λ i. leb (entry (seen self.now) t i) b)) }
     {

@@ -49,7 +49,7 @@ pub fn put_sections(words: &mut [u32], sizes: &Sizes)
     }
 }
 
-// An image as long as the sizes give.
+// An image as long as the sizes give. The settings are turned into words here, and by no From: only settings within their limits have each a word.
 pub fn put(words: &mut [u32], sizes: &Sizes)
     requires { length words.old ≡ whole.words sizes.now.settings }
     ensures { words.new ≡ rule.fresh sizes.now.settings }

@@ -59,3 +59,13 @@ pub fn set_up(words: &mut [u32], settings: Settings) -> Result<(), NoSetUp>
     fresh::put(words, &sizes);
     Ok(())
 }
+
+// The number of a set-up's result: 0, or 12 or 13.
+pub fn set_up_number(reply: Result<(), NoSetUp>) -> u32
+    ensures { result ≡ set_up_number_of reply }
+{
+    match reply {
+        Ok(()) => 0,
+        Err(why) => u32::from(why),
+    }
+}

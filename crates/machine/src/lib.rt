@@ -73,7 +73,7 @@ pub fn retired_at(image: &[u32], thread: u32) -> Result<Part, Why>
     })
 }
 
-// The list question: the part of the image that holds the thread's entries, as many as its length; empty where refused.
+// The list question: the part of the image that holds the thread's entries, as many as its length; an empty part where it is refused, as document 01 has it and the clause holds.
 pub fn retired(image: &[u32], thread: u32) -> &[u32]
     ensures { (result.now ≡ question.list_part image.now thread) × (result.ref_ptr.0 ≡ image.entry.ref_ptr.0) × (result.ref_ptr.1 ≡ image.entry.ref_ptr.1 + question.list_from image.now thread * 4) }
 {

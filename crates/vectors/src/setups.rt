@@ -26,14 +26,6 @@ fn read_settings<F: Read>(source: &mut Source<F>) -> Result<Settings, Stop> {
     ]))
 }
 
-// Tries a set-up: its number, as the file has it.
-fn set_up(words: &mut [u32], settings: Settings) -> u32 {
-    match image::set_up(words, settings) {
-        Ok(()) => 0,
-        Err(why) => u32::from(why),
-    }
-}
-
 impl Case for SetUp {
     const FILE: &'static str = "setups.words";
 
@@ -60,7 +52,7 @@ impl Case for SetUp {
     fn compare<R: Print>(mut self, line: &mut Line<'_, R>) -> io::Result<()> {
         line.number(
             "number",
-            set_up(&mut self.given, self.settings),
+            image::set_up_number(image::set_up(&mut self.given, self.settings)),
             self.number,
         )?;
         if self.number == 0 {

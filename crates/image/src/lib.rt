@@ -60,7 +60,7 @@ pub fn set_up(words: &mut [u32], settings: Settings) -> Result<(), NoSetUp>
     Ok(())
 }
 
-// The number of a set-up's result: 0, or 12 or 13.
+// The number of a set-up's result: 0, or 12 or 13. As `rules::number` of a step's, over other reasons: one for both would promise what a `From` gives in place of the definitions.
 pub fn set_up_number(reply: Result<(), NoSetUp>) -> u32
     ensures { result ≡ set_up_number_of reply }
 {

@@ -105,6 +105,7 @@ impl Sizes {
         ensures { result ≡ all whole.sections (count_right self.now.settings words.now) }
     {
         let mut ok = true;
+        // where the next count stands
         let mut p = 0;
         for n in &self.sections {
             ok &= words[p] as usize == *n;

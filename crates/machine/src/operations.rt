@@ -27,7 +27,7 @@ pub fn allocate(image: &mut Image<'_>) -> Reply
     Ok(p as u32)
 }
 
-// Neither 0 nor live.
+// Neither 0 nor live. Of a status only whether it is that one is asked, so that its word is compared.
 fn dead(view: &View<'_>, c: u32) -> bool
     requires { c ≤ view.now.layout.settings.records }
     ensures { result ≡ (not (c == 0) && not (status (seen view.now) c == 1)) }

@@ -2,6 +2,7 @@
 #![tactic(auto)]
 
 pub mod advance;
+pub mod named;
 pub mod operations;
 pub mod refusals;
 pub mod searches;

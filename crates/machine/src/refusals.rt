@@ -6,7 +6,8 @@ ghost use Rattle.rules.proofs.Limits.{Limits};
 ghost use Rattle.rules.proofs.Refused.{operand_wrong};
 ghost use Rattle.machine.specs.Operands.{operand_limit};
 
-use rules::{Operation, Phase, Settings, Step};
+use super::named::Named;
+use rules::{Operation, Phase, Settings};
 
 // Which phases allow each operation: a row an operation, a column a phase.
 const ALLOWED: [[bool; 8]; 11] = [
@@ -53,10 +54,11 @@ fn limits(s: Settings, op: Operation) -> [usize; 3]
 }
 
 // An operand is beyond its limit, one that isn't listed isn't 0, or it is a retire of 0. Of the settings no more is asked than their limits.
-pub fn wrong_operand(s: Settings, op: Operation, step: Step) -> bool
-    requires { (Limits s) × (op_number op ≡ step.op) }
-    ensures { result ≡ operand_wrong s step }
+pub fn wrong_operand(s: Settings, named: Named) -> bool
+    requires { Limits s }
+    ensures { result ≡ operand_wrong s named.step }
 {
+    let Named { op, step } = named;
     let [first, second, third] = limits(s, op);
     let fit = ((step.a as usize) < first)
         & ((step.b as usize) < second)

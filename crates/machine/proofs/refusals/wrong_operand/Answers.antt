@@ -6,4 +6,4 @@ use Rattle.machine.proofs.refusals.wrong_operand.Goals as goal
 pub returns : goal.returns
 returns c =
     let l = c.limits.ensures in
-    wrong_is c.args.s c.args.step c.requires.1 (search rules) l.first l.second l.third
+    wrong_is c.args.s c.args.named.step c.args.named.same (search rules) l.first l.second l.third

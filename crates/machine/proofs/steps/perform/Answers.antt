@@ -6,38 +6,38 @@ use Rattle.rules.proofs.Checked.{late_advance, late_allocate, late_check, late_c
 use Rattle.machine.proofs.steps.perform.Goals as goal
 
 pub returns-in-Allocate : goal.returns-in-Allocate
-returns-in-Allocate c = at_op c.args.step 0 c.requires.2 (sym c.requires.0 ∙ ap op_number c.in-Allocate.is) (late_allocate _ _ _ _ _ _) c.allocate.ensures
+returns-in-Allocate c = at_op c.args.named.step 0 c.requires.1 (sym c.args.named.same ∙ ap op_number c.in-Allocate.is) (late_allocate _ _ _ _ _ _) c.allocate.ensures
 
 pub returns-in-Swap : goal.returns-in-Swap
-returns-in-Swap c = at_op c.args.step 1 c.requires.2 (sym c.requires.0 ∙ ap op_number c.in-Swap.is) (late_swap _ _ _ _ _ _) c.swap.ensures
+returns-in-Swap c = at_op c.args.named.step 1 c.requires.1 (sym c.args.named.same ∙ ap op_number c.in-Swap.is) (late_swap _ _ _ _ _ _) c.swap.ensures
 
 pub returns-in-Load : goal.returns-in-Load
-returns-in-Load c = at_op c.args.step 2 c.requires.2 (sym c.requires.0 ∙ ap op_number c.in-Load.is) (late_load _ _ _ _ _ _) c.load.ensures
+returns-in-Load c = at_op c.args.named.step 2 c.requires.1 (sym c.args.named.same ∙ ap op_number c.in-Load.is) (late_load _ _ _ _ _ _) c.load.ensures
 
 pub returns-in-Reserve : goal.returns-in-Reserve
-returns-in-Reserve c = at_op c.args.step 3 c.requires.2 (sym c.requires.0 ∙ ap op_number c.in-Reserve.is) (late_reserve _ _ _ _ _ _) c.reserve.ensures
+returns-in-Reserve c = at_op c.args.named.step 3 c.requires.1 (sym c.args.named.same ∙ ap op_number c.in-Reserve.is) (late_reserve _ _ _ _ _ _) c.reserve.ensures
 
 pub returns-in-Check : goal.returns-in-Check
-returns-in-Check c = at_op c.args.step 4 c.requires.2 (sym c.requires.0 ∙ ap op_number c.in-Check.is) (late_check _ _ _ _ _ _) c.check.ensures
+returns-in-Check c = at_op c.args.named.step 4 c.requires.1 (sym c.args.named.same ∙ ap op_number c.in-Check.is) (late_check _ _ _ _ _ _) c.check.ensures
 
 pub returns-in-Use : goal.returns-in-Use
 returns-in-Use c =
     let i = c.args.image.now in
     let v = c.view.ensures in
-    at_op {i = i} {j = i} c.args.step 5 c.requires.2 (sym c.requires.0 ∙ ap op_number c.in-Use.is) (late_use _ _ _ _ _ _)
+    at_op {i = i} {j = i} c.args.named.step 5 c.requires.1 (sym c.args.named.same ∙ ap op_number c.in-Use.is) (late_use _ _ _ _ _ _)
     (record { same = refl; layout = refl; outcome = rw (v.words, v.layout) at c.use_slot.ensures })
 
 pub returns-in-Clear : goal.returns-in-Clear
-returns-in-Clear c = at_op c.args.step 6 c.requires.2 (sym c.requires.0 ∙ ap op_number c.in-Clear.is) (late_clear _ _ _ _ _ _) c.clear.ensures
+returns-in-Clear c = at_op c.args.named.step 6 c.requires.1 (sym c.args.named.same ∙ ap op_number c.in-Clear.is) (late_clear _ _ _ _ _ _) c.clear.ensures
 
 pub returns-in-Retire : goal.returns-in-Retire
-returns-in-Retire c = at_op c.args.step 7 c.requires.2 (sym c.requires.0 ∙ ap op_number c.in-Retire.is) (late_retire _ _ _ _ _ _) c.retire.ensures
+returns-in-Retire c = at_op c.args.named.step 7 c.requires.1 (sym c.args.named.same ∙ ap op_number c.in-Retire.is) (late_retire _ _ _ _ _ _) c.retire.ensures
 
 pub returns-in-Advance : goal.returns-in-Advance
-returns-in-Advance c = at_op c.args.step 8 c.requires.2 (sym c.requires.0 ∙ ap op_number c.in-Advance.is) (late_advance _ _ _ _ _ _) c.advance.ensures
+returns-in-Advance c = at_op c.args.named.step 8 c.requires.1 (sym c.args.named.same ∙ ap op_number c.in-Advance.is) (late_advance _ _ _ _ _ _) c.advance.ensures
 
 pub returns-in-Deliver : goal.returns-in-Deliver
-returns-in-Deliver c = at_op c.args.step 9 c.requires.2 (sym c.requires.0 ∙ ap op_number c.in-Deliver.is) (late_deliver _ _ _ _ _ _) c.deliver.ensures
+returns-in-Deliver c = at_op c.args.named.step 9 c.requires.1 (sym c.args.named.same ∙ ap op_number c.in-Deliver.is) (late_deliver _ _ _ _ _ _) c.deliver.ensures
 
 pub returns-in-Handle : goal.returns-in-Handle
-returns-in-Handle c = at_op c.args.step 10 c.requires.2 (sym c.requires.0 ∙ ap op_number c.in-Handle.is) (late_handle _ _ _ _ _ _) c.handle.ensures
+returns-in-Handle c = at_op c.args.named.step 10 c.requires.1 (sym c.args.named.same ∙ ap op_number c.in-Handle.is) (late_handle _ _ _ _ _ _) c.handle.ensures

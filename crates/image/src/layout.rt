@@ -62,7 +62,7 @@ impl Layout {
     // The layout of an image of which the settings are legal and the counts are right.
     pub fn of(words: &[u32]) -> Layout
         requires { Shaped words.now }
-        ensures { result.settings ≡ of.settings words.now }
+        ensures { (result.settings ≡ of.settings words.now) × (whole.words result.settings ≡ length words.now) }
     {
         let settings = settings(words);
         Layout {

@@ -1,7 +1,6 @@
 -- Too short, settings refused, not as long or counted as they give, or word by word.
 use Rattle.std.proofs.Common.{refl, ap, ◌∙◌}
 use Rattle.image.proofs.Verdicts.{illegal, shaped, short, unlaid, verdict}
-use Rattle.rules.specs.Image.{words}
 use Rattle.rules.specs.Settings.{legal}
 use Rattle.image.proofs.damaged.Goals as goal
 
@@ -20,10 +19,8 @@ of-layout-requires c =
     shaped _ (c.in-Some.ensures.0 ∙ c.settings.ensures) refl c.laid.ensures (ap legal c.in-Some.ensures.0 ∙ c.in-Some.ensures.1) c.if-not-laid.false
 
 pub invariant_of-right : goal.invariant_of-right
-invariant_of-right c =
-    let s = shaped _ (c.in-Some.ensures.0 ∙ c.settings.ensures) refl c.laid.ensures (ap legal c.in-Some.ensures.0 ∙ c.in-Some.ensures.1) c.if-not-laid.false in
-    record { long = ap words c.of-layout.ensures ∙ s.long }
+invariant_of-right c = record { long = c.of-layout.ensures.1 }
 
 pub returns : goal.returns
 returns c =
-    verdict _ (c.in-Some.ensures.0 ∙ c.settings.ensures) refl c.laid.ensures (ap legal c.in-Some.ensures.0 ∙ c.in-Some.ensures.1) c.if-not-laid.false c.of-layout.ensures c.right.ensures
+    verdict _ (c.in-Some.ensures.0 ∙ c.settings.ensures) refl c.laid.ensures (ap legal c.in-Some.ensures.0 ∙ c.in-Some.ensures.1) c.if-not-laid.false c.of-layout.ensures.0 c.right.ensures

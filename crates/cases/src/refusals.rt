@@ -13,7 +13,7 @@ fn untouched(words: &[u32]) -> bool
     words.iter().all(|word| *word == 7)
 }
 
-// Whether a set-up of so many words gives the number, and leaves each word as it was.
+// Whether a set-up of so many words gives the number, which is document 01's, and leaves each word as it was.
 fn is_refused<const WORDS: usize>(settings: [u32; 6], number: u32) -> bool
     requires { WORDS ≤ 8209 }
 {

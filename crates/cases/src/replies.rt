@@ -1,4 +1,4 @@
-// Steps one after another from a set-up: a row has the step's five words, and the number and the value that it must give.
+// Steps one after another from a set-up: a row has the step's five words, and the number and the value that it must give: numbers, as document 01 has them.
 ghost use Rattle.std.specs.Prelude.{◌≤◌};
 
 use super::{set_up, step};

@@ -46,7 +46,7 @@ pub extern "C" fn ernuvald_words(
     image::words_needed(settings) as u32
 }
 
-// Sets an image up. The number: 0, or 12 or 13, and then no word is changed.
+// Sets an image up. The number: 0, or 12 or 13, and then no word is changed. The settings come one by one, as C has them.
 #[unsafe(no_mangle)]
 pub extern "C" fn ernuvald_set_up(
     image: &mut [u32],
@@ -63,7 +63,7 @@ pub extern "C" fn ernuvald_set_up(
     image::set_up_number(image::set_up(image, settings))
 }
 
-// One step.
+// One step, its five words one by one, as C has them.
 #[unsafe(no_mangle)]
 pub extern "C" fn ernuvald_step(
     image: &mut [u32],
@@ -101,7 +101,7 @@ pub extern "C" fn ernuvald_retired(image: &[u32], thread: u32) -> Part
     }
 }
 
-// 1 if the image is damaged, else 0.
+// 1 if the image is damaged, else 0: a number, as C has it.
 #[unsafe(no_mangle)]
 pub extern "C" fn ernuvald_damaged(image: &[u32]) -> u32
     ensures { result ≡ bit (rule.damaged image.now) }

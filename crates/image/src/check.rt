@@ -1,4 +1,4 @@
-// The damage check: a plain loop a rule, over a run of words or over two side by side.
+// The damage check: a plain loop a rule, over a run of words or over two side by side. A thread's number goes beside the view with its bound, as an index does.
 ghost use Rattle.std.specs.Prelude.{◌≡◌, not, ◌&&◌, ◌||◌, ℕ, ◌+◌, ◌*◌, ◌<◌, ◌≤◌, length, get_or, eqb, leb};
 ghost use Rattle.rules.specs.Tests.{all};
 ghost use Rattle.rules.specs.Settings as of;

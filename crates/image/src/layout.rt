@@ -79,7 +79,7 @@ impl Layout {
         self.settings.threads * self.settings.slots
     }
 
-    // Slot s of thread t, counted over all threads.
+    // Slot s of thread t, counted over all threads. A number goes with its bound, as in the operations.
     #[inline]
     pub fn slot(self, t: usize, s: usize) -> usize
         requires { (t < self.settings.threads) × (s < self.settings.slots) }
@@ -120,7 +120,7 @@ impl Layout {
         }
     }
 
-    // Where the word of a kind at place j of row i stands.
+    // Where the word of a kind at place j of row i stands: the three side by side, as the definitions `to` and `view` have them.
     #[inline]
     pub fn place(self, kind: Kind, i: usize, j: usize) -> usize
         requires { Valid self.settings kind i j }

@@ -12,7 +12,7 @@ pub struct View<'a> {
     pub ghost long: { whole.words layout.settings ≡ length words.now },
 }
 
-// An image to write.
+// An image to write. Beside `View`: whether a reference writes can't be a parameter of a type.
 #[derive(Drop)]
 pub struct Image<'a> {
     pub words: &'a mut [u32],

@@ -74,7 +74,7 @@ fn wait(image: &mut Image<'_>, t: usize) -> Reply
     }
 }
 
-// Thread t's row of the one that the thread number selects: the reclaimer's own is private, another's published.
+// Thread t's row of the one that the thread number selects: the reclaimer's own is private, another's published. Document 01 names the form: two lent slices, and a row of one.
 pub fn row<'a>(
     private: &'a [u32],
     published: &'a [u32],

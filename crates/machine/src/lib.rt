@@ -52,7 +52,7 @@ fn asked(image: &[u32], thread: u32) -> Result<View<'_>, Why>
     })
 }
 
-// The list question's number: 0, 1 or 3. A number, as document 01 asks for it; the clause and `retired_number_equal` hold it.
+// The list question's number: 0, 1 or 3. A number, as document 01 asks for it; the clause and `retired_number_equal` hold it. Why each result has its own is said at `image::set_up_number`.
 pub fn retired_number(image: &[u32], thread: u32) -> u32
     ensures { result ≡ question.list_number image.now thread }
 {

@@ -154,7 +154,7 @@ fn append(image: &mut Image<'_>, t: usize, a: u32, n: u32)
     begin_if(image, threshold <= n as usize + 1, t);
 }
 
-// 7, retire: record a
+// 7, retire: record a, of whose status only whether it is live is asked, as in `dead`
 #[tactic(auto, unfolding(rules::specs::Operations::retire))]
 pub fn retire(image: &mut Image<'_>, t: usize, a: u32) -> Reply
     requires { (t < image.old.layout.settings.threads) × (1 ≤ a) × (a ≤ image.old.layout.settings.records) × (list_length (state image.old) t ≤ image.old.layout.room) }
@@ -201,7 +201,7 @@ fn copy(image: &mut Image<'_>, t: usize, k: u32)
     image.set(Kind::Handler, t, 0, k + 1);
 }
 
-// 10 past the last slot: the count, which after the largest becomes 0.
+// 10 past the last slot: the count, which after the largest becomes 0: raised by a wrapping add, as document 01 names the form.
 #[tactic(auto, unfolding(rules::specs::Operations::handle))]
 fn count(image: &mut Image<'_>, t: usize)
     requires { (t < image.old.layout.settings.threads) × (image.old.layout.settings.slots < handler (state image.old) t) }

@@ -9,7 +9,7 @@ ghost use Rattle.machine.specs.Operands.{operand_limit};
 use super::named::Named;
 use rules::{Operation, Phase, Settings};
 
-// Which phases allow each operation: a row an operation, a column a phase.
+// Which phases allow each operation: a row an operation, a column a phase. Document 01 names the form: a constant table of tables.
 const ALLOWED: [[bool; 8]; 11] = [
     [true, false, false, false, false, false, false, false],
     [true, false, false, false, false, false, false, false],

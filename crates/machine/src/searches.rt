@@ -1,4 +1,4 @@
-// The searches: a word among others, a record among the cells or the scanned words, and the lowest free record.
+// The searches: a word among others, a record among the cells or the scanned words, and the lowest free record. A thread's number goes beside the view with its bound, as an index does.
 ghost use Rattle.std.specs.Prelude.{EachIndex, MatchOption, ◌≡◌, ◌≢◌, ℕ, ◌<◌, ◌≤◌, length, nat_eq, slice_index};
 ghost use Rattle.rules.specs.Tests.{some};
 ghost use Rattle.rules.specs.Operations as rule;
@@ -8,7 +8,7 @@ ghost use Rattle.image.specs.Views.{seen};
 use image::view::View;
 use rules::Kind;
 
-// One of the words is x. No word ends the loop, so that they are read as vectors: `contains` and `iter().any` take two to three times as long.
+// One of the words is x. No word ends the loop, so that they are read as vectors: `contains` and `iter().any` take two to three times as long. The test is not handed in: with a closure the clause would speak of what it answers.
 fn any(words: &[u32], x: u32) -> bool
     ensures { result ≡ some (length words.now) (λ i. nat_eq (slice_index words.now i) x) }
 {

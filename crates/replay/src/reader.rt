@@ -27,7 +27,7 @@ impl<'a> Schedule<'a> {
     }
 }
 
-// A place in a schedule: the number of the step that is read next.
+// A place in a schedule: the number of the step that is read next. Document 01 names the form: a struct over the lent schedule with its place.
 #[derive(Clone, Copy)]
 pub struct Reader<'a> {
     schedule: Schedule<'a>,

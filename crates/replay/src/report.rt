@@ -16,7 +16,7 @@ pub struct Tally {
 }
 
 impl Tally {
-    // One step more, by the number and the value that its line has.
+    // One step more, by the three numbers that its line has: one that names no operation is counted too.
     #[tactic(auto, unfolding(crate::specs::Tally::counted_in))]
     pub fn count(&mut self, op: u32, number: u32, value: u32)
         requires { Low self.old }

@@ -31,7 +31,7 @@ fn push_number(text: &mut Text, n: u32, end: &str)
     text.push_str(end);
 }
 
-// The line of step i.
+// The line of step i, from its four numbers as they stand there.
 #[tactic(auto, unfolding(crate::specs::Line::line_of, rules::specs::Program::ascii))]
 pub fn push_line(text: &mut Text, i: u32, op: u32, number: u32, value: u32)
     requires { length text.old.bytes + 44 ≤ program.longest }

@@ -5,7 +5,7 @@ use super::tell::Line;
 use std::io;
 use std::io::Read;
 
-// A thread's list asked for, and the number and the entries that must be given.
+// A thread's list asked for, and the number and the entries that must be given; numbers, as the file has them.
 #[derive(Drop)]
 pub struct Question {
     image: Vec<u32>,

@@ -6,7 +6,7 @@ use rules::Settings;
 use std::io;
 use std::io::Read;
 
-// Given and expected are as long. Both hold a pattern, which a refused set-up leaves as it is.
+// A set-up: its settings, its number as the file has it, and the words. Given and expected are as long. Both hold a pattern, which a refused set-up leaves as it is.
 #[derive(Drop)]
 pub struct SetUp {
     settings: Settings,

@@ -6,7 +6,7 @@ use rules::Step;
 use std::io;
 use std::io::Read;
 
-// A step on an image, what it must give, and the image as it must be afterwards.
+// A step on an image, what it must give, and the image as it must be afterwards; numbers, as the file has them.
 #[derive(Drop)]
 pub struct SingleStep {
     image: Vec<u32>,

@@ -26,7 +26,7 @@ fn read_step<F: Read>(source: &mut Source<F>) -> Result<Step, Stop> {
     ]))
 }
 
-// Takes a step: number and value of its reply, as the file has them. `cases` does the same; the two programs share no crate of their own.
+// Takes a step: number and value of its reply, as the file has them. `cases` does the same: a function for both would be one of `rules` that no library calls.
 fn reply(image: &mut [u32], step: Step) -> (u32, u32) {
     let reply = machine::step(image, step);
     (rules::number(reply), rules::value(reply))

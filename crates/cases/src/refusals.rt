@@ -21,16 +21,16 @@ fn is_refused<const WORDS: usize>(settings: [u32; 6], number: u32) -> bool
     set_up(&mut words, settings) == number && untouched(&words)
 }
 
-pub fn seventeen_threads() -> bool {
+pub(crate) fn seventeen_threads() -> bool {
     is_refused::<56>([17, 1, 1, 2, 1, 0], 12)
 }
 
 // The settings of the printed example need 56 words.
-pub fn one_too_few() -> bool {
+pub(crate) fn one_too_few() -> bool {
     image::words_needed(Settings::from([2, 1, 1, 2, 1, 4294967295])) == 56
         && is_refused::<55>([2, 1, 1, 2, 1, 4294967295], 13)
 }
 
-pub fn empty_image() -> bool {
+pub(crate) fn empty_image() -> bool {
     step(&mut [], [0; 5]) == (1, 0) && machine::retired_number(&[], 0) == 1
 }

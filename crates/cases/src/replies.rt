@@ -59,10 +59,10 @@ fn pass<const WORDS: usize>(settings: [u32; 6], rows: &[[u32; 7]]) -> bool
     set_up(&mut image, settings) == 0 && are_given(&mut image, rows)
 }
 
-pub fn second_retire() -> bool {
+pub(crate) fn second_retire() -> bool {
     pass::<35>([1, 1, 1, 2, 2, 0], SECOND_RETIRE)
 }
 
-pub fn printed() -> bool {
+pub(crate) fn printed() -> bool {
     pass::<56>([2, 1, 1, 2, 1, 4294967295], PRINTED)
 }

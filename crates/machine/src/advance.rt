@@ -168,6 +168,7 @@ pub fn advance(image: &mut Image<'_>, t: usize) -> Reply
     requires { (t < image.old.layout.settings.threads) × (3 ≤ phase (state image.old) t) × (Thread image.old.layout.settings (state image.old) t) × ((i : ℕ) → i < image.old.layout.room → entry (state image.old) t i ≤ image.old.layout.settings.records) }
     ensures { Answered image.old image.new result (rule.advance image.old.layout.settings (state image.old) t) }
 {
+    // an undamaged image has a phase there, so that this `?` never answers
     let at = Phase::try_from(image.view().word(Kind::Phase, t, 0))?;
     match at {
         Phase::Collecting => collect(image, t),

@@ -50,6 +50,7 @@ fn admit(view: &View<'_>, named: Named) -> Result<(), Why>
     if (view.word(Kind::Handler, t, 0) != 0) & (named.op != Operation::Handle) {
         return Err(Why::HandlerRunning);
     }
+    // an undamaged image has a phase there, so that this `?` never answers
     let at = Phase::try_from(view.word(Kind::Phase, t, 0))?;
     if refusals::allowed(named.op, at) {
         Ok(())

@@ -1,4 +1,4 @@
--- 01, Replies by number: 2 to 11, tested in its order. And what the code's answer, an enum, says in these terms.
+-- 01, Replies by number: 2 to 11, tested in its order. And what the code's enums and results say in these terms.
 use Rattle.std.specs.Prelude.{◌≡◌, Bool, cond, not, ◌&&◌, ◌||◌, List, [], ◌∷◌, ℕ, ◌+◌, ◌≤◌, get_or, eqb, leb, ltb, Result, Ok, Err, MatchResult}
 use Rattle.rules.specs.declared.Settings.{Settings}
 use Rattle.rules.specs.declared.Step.{Step}

@@ -165,7 +165,7 @@ impl TryFrom<u32> for Operation {
     }
 }
 
-// A word above 7 is no phase, and an image that has it there is damaged.
+// A word above 7 is no phase, and an image that has it there is damaged. A line a name, as for the operations: no derive makes them, and a table would say the names twice.
 impl TryFrom<u32> for Phase {
     type Error = Why;
 

@@ -7,7 +7,7 @@ use std::io::Read;
 
 // A thread's list asked for, and the number and the entries that must be given; numbers, as the file has them.
 #[derive(Drop)]
-pub struct Question {
+pub(crate) struct Question {
     image: Vec<u32>,
     thread: u32,
     number: u32,

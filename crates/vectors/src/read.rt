@@ -9,7 +9,7 @@ use std::io::{ErrorKind, Read};
 
 // Why no further case is run: the file can't be read, or it ends, or this case has no room.
 #[derive(Debug, Drop)]
-pub enum Stop {
+pub(crate) enum Stop {
     Io(io::Error),
     Cut,
     TooLarge,
@@ -31,10 +31,10 @@ impl From<AllocError> for Stop {
 }
 
 // The most words that a case's image has room for.
-pub const ROOM: u32 = 8300;
+pub(crate) const ROOM: u32 = 8300;
 
 // How many words or bytes a file says come next, if that is no more than there is room for.
-pub fn within(n: u32, most: u32) -> Result<usize, Stop>
+pub(crate) fn within(n: u32, most: u32) -> Result<usize, Stop>
     ensures ok { IfOk result (λ k. (k ≡ n) × (k ≤ most)) }
     ensures err { OnErr result (most < n) }
 {
@@ -46,7 +46,7 @@ pub fn within(n: u32, most: u32) -> Result<usize, Stop>
 
 // A file that is read, and the memory for what is read of it.
 #[derive(Drop)]
-pub struct Source<F> {
+pub(crate) struct Source<F> {
     alloc: Global,
     file: F,
 }
@@ -63,19 +63,19 @@ fn from_bytes(bytes: &[u8], out: &mut [u32])
 }
 
 impl<F: Read> Source<F> {
-    pub fn new(alloc: Global, file: F) -> Self {
+    pub(crate) fn new(alloc: Global, file: F) -> Self {
         Source { alloc, file }
     }
 
     // Memory for n words or bytes, each of them x at first.
-    pub fn filled<T: Copy>(&self, x: T, n: usize) -> Result<Vec<T>, Stop>
+    pub(crate) fn filled<T: Copy>(&self, x: T, n: usize) -> Result<Vec<T>, Stop>
         ensures { IfOk result (λ xs. length xs.items ≡ n) }
     {
         Ok(vec![in self.alloc; x; n]?)
     }
 
     // The next n bytes.
-    pub fn bytes(&mut self, n: usize) -> Result<Vec<u8>, Stop>
+    pub(crate) fn bytes(&mut self, n: usize) -> Result<Vec<u8>, Stop>
         ensures { IfOk result (λ xs. length xs.items ≡ n) }
     {
         let mut bytes = self.filled(0, n)?;
@@ -84,7 +84,7 @@ impl<F: Read> Source<F> {
     }
 
     // The next n words.
-    pub fn words(&mut self, n: usize) -> Result<Vec<u32>, Stop>
+    pub(crate) fn words(&mut self, n: usize) -> Result<Vec<u32>, Stop>
         ensures { IfOk result (λ xs. length xs.items ≡ n) }
     {
         let bytes = self.bytes(n.checked_mul(4).ok_or(Stop::TooLarge)?)?;
@@ -94,14 +94,14 @@ impl<F: Read> Source<F> {
     }
 
     // The next word.
-    pub fn word(&mut self) -> Result<u32, Stop> {
+    pub(crate) fn word(&mut self) -> Result<u32, Stop> {
         let mut bytes = [0; 4];
         self.file.read_exact(&mut bytes)?;
         Ok(u32::from_le_bytes(bytes))
     }
 
     // Whether nothing is left.
-    pub fn is_end(&mut self) -> io::Result<bool> {
+    pub(crate) fn is_end(&mut self) -> io::Result<bool> {
         Ok(self.file.by_ref().bytes().next().transpose()?.is_none())
     }
 }

@@ -13,7 +13,7 @@ const LENT: usize = 65536;
 
 // An input, the output that it must give, and the buffer that is lent for one.
 #[derive(Drop)]
-pub struct Schedule {
+pub(crate) struct Schedule {
     input: Vec<u8>,
     expected: Vec<u8>,
     given: Vec<u8>,

@@ -8,7 +8,7 @@ use std::io::Read;
 
 // A set-up: its settings, its number as the file has it, and the words. Given and expected are as long. Both hold a pattern, which a refused set-up leaves as it is.
 #[derive(Drop)]
-pub struct SetUp {
+pub(crate) struct SetUp {
     settings: Settings,
     number: u32,
     given: Vec<u32>,

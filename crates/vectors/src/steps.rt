@@ -8,7 +8,7 @@ use std::io::Read;
 
 // A step on an image, what it must give, and the image as it must be afterwards; numbers, as the file has them.
 #[derive(Drop)]
-pub struct SingleStep {
+pub(crate) struct SingleStep {
     image: Vec<u32>,
     step: Step,
     number: u32,

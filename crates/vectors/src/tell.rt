@@ -6,7 +6,7 @@ use std::io;
 
 // The line on a case. It tells all that differs, and is begun at the first difference.
 #[derive(Drop)]
-pub struct Line<'a, R> {
+pub(crate) struct Line<'a, R> {
     rt: &'a R,
     name: &'a str,
     case: usize,
@@ -25,7 +25,7 @@ fn first_difference<T: PartialEq>(a: &[T], b: &[T]) -> usize
 
 impl<'a, R: Print> Line<'a, R> {
     // The line on a case of the file of that name.
-    pub fn new(rt: &'a R, name: &'a str, case: usize) -> Self {
+    pub(crate) fn new(rt: &'a R, name: &'a str, case: usize) -> Self {
         Line {
             rt,
             name,
@@ -55,7 +55,7 @@ impl<'a, R: Print> Line<'a, R> {
     }
 
     // Compares a number.
-    pub fn number<T: PartialEq + Display + Drop>(
+    pub(crate) fn number<T: PartialEq + Display + Drop>(
         &mut self,
         what: &str,
         given: T,
@@ -68,7 +68,7 @@ impl<'a, R: Print> Line<'a, R> {
     }
 
     // Compares words or bytes: tells the first that differs.
-    pub fn items<T: PartialEq + Display>(
+    pub(crate) fn items<T: PartialEq + Display>(
         &mut self,
         what: &str,
         given: &[T],
@@ -82,7 +82,7 @@ impl<'a, R: Print> Line<'a, R> {
     }
 
     // The end of a case: whether anything differs.
-    pub fn end(self) -> io::Result<bool> {
+    pub(crate) fn end(self) -> io::Result<bool> {
         if self.begun {
             println!(self.rt)?;
         }

@@ -34,16 +34,16 @@ pub fn noted(view: &View<'_>, a: usize, p: u32) -> bool
     any(view.row(Kind::Scanned, a), p)
 }
 
-// How many words can be passed over, as none of them is 0: block after block, each read as vectors (`position` alone takes twice as long, and so do blocks of 32).
+// How many words can be passed over, as none of them is 0: block after block, each read as vectors (`position` alone takes twice as long). Longer blocks leave more words to be read one by one, with fewer records than a block has words all of them.
 fn without_zero(words: &[u32]) -> usize
     ensures { (result ≤ length words.now) × ((k : ℕ) → k < result → slice_index words.now k ≢ 0) }
 {
     let mut passed = 0;
-    for block in words.chunks_exact(128) {
+    for block in words.chunks_exact(32) {
         if any(block, 0) {
             return passed;
         }
-        passed += 128;
+        passed += 32;
     }
     passed
 }

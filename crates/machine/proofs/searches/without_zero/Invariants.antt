@@ -6,7 +6,7 @@ use Rattle.machine.proofs.searches.without_zero.Given as goal
 abbrev pub invariant-loop-block : goal.invariant-loop-block
 invariant-loop-block l = record {
   inside : l.passed ≤ length l.words;
-  size : l.block-iterator.size ≡ 128;
+  size : l.block-iterator.size ≡ 32;
   rest : l.block-iterator.rest.now ≡ drop l.passed l.words;
   none : Passed l.words l.passed;
 }

@@ -1,10 +1,15 @@
 -- What is read and compared, on lists.
-use Rattle.std.specs.Prelude.{◌≡◌, List, ℕ, ◌≤◌, ◌<◌, Bool, true, false, length, get_or}
+use Rattle.std.specs.Prelude.{◌≡◌, List, ℕ, ◌*◌, ◌≤◌, ◌<◌, Bool, true, false, Option, length, get_or}
+use Rattle.std.specs.Io.KnownBytes.{Consumes}
 use Rattle.rules.specs.Program.{word}
 
 -- the first n words of ws are those that the bytes hold
 unfoldable pub Words : List ℕ → List ℕ → ℕ → Type 0
 Words bs ws n = (i : ℕ) → i < n → get_or ws i 0 ≡ word bs i
+
+-- the words ws are read: what is known to be left begins with the bytes that hold them, and is what follows afterwards
+abbrev pub Takes : Option (List ℕ) → Option (List ℕ) → List ℕ → Type 0
+Takes old new ws = (bs : List ℕ) × Consumes old new bs × (length bs ≡ length ws * 4) × Words bs ws (length ws)
 
 -- xs and ys are the same below k, where `eq` is the test of two items
 unfoldable pub Same : {A : Type 0} → (A → A → Bool) → List A → List A → ℕ → Type 0

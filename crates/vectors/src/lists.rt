@@ -20,9 +20,8 @@ impl Case for Question {
     fn read<F: Read>(source: &mut Source<F>) -> Result<Self, Stop> {
         let n = within(source.word()?, ROOM)?;
         let image = source.words(n)?;
-        let thread = source.word()?;
-        let number = source.word()?;
-        let n = within(source.word()?, ROOM)?;
+        let [thread, number, n] = source.array::<3>()?;
+        let n = within(n, ROOM)?;
         let entries = source.words(n)?;
         Ok(Question {
             image,

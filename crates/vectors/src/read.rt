@@ -1,6 +1,7 @@
 // What is read of a file, as much at a time as a case needs.
-ghost use Rattle.std.specs.Prelude.{◌≡◌, ◌*◌, ◌<◌, ◌≤◌, length, IfOk, OnErr};
-ghost use Rattle.vectors.specs.Compared.{Words};
+ghost use Rattle.std.specs.Prelude.{◌≡◌, ◌*◌, ◌<◌, ◌≤◌, [], ◌∷◌, length, IfOk, OnErr};
+ghost use Rattle.std.specs.Io.KnownBytes.{Consumes};
+ghost use Rattle.vectors.specs.Compared.{Words, Takes};
 
 use replay::schedule::word;
 use std::alloc::{AllocError, Global};
@@ -76,7 +77,7 @@ impl<F: Read> Source<F> {
 
     // The next n bytes.
     pub(crate) fn bytes(&mut self, n: usize) -> Result<Vec<u8>, Stop>
-        ensures { IfOk result (λ xs. length xs.items ≡ n) }
+        ensures { IfOk result (λ xs. (length xs.items ≡ n) × Consumes (F.remaining self.old.file) (F.remaining self.new.file) xs.items) }
     {
         let mut bytes = self.filled(0, n)?;
         self.file.read_exact(&mut bytes)?;
@@ -85,7 +86,7 @@ impl<F: Read> Source<F> {
 
     // The next n words.
     pub(crate) fn words(&mut self, n: usize) -> Result<Vec<u32>, Stop>
-        ensures { IfOk result (λ xs. length xs.items ≡ n) }
+        ensures { IfOk result (λ xs. (length xs.items ≡ n) × Takes (F.remaining self.old.file) (F.remaining self.new.file) xs.items) }
     {
         let bytes = self.bytes(n.checked_mul(4).ok_or(Stop::TooLarge)?)?;
         let mut words = self.filled(0, n)?;
@@ -93,11 +94,25 @@ impl<F: Read> Source<F> {
         Ok(words)
     }
 
+    // The next N words. The head of a set-up has the most, 8.
+    pub(crate) fn array<const N: usize>(&mut self) -> Result<[u32; N], Stop>
+        requires { N ≤ 8 }
+        ensures { IfOk result (λ xs. Takes (F.remaining self.old.file) (F.remaining self.new.file) xs) }
+    {
+        let mut space = [0; 32];
+        let bytes = &mut space[..N * 4];
+        self.file.read_exact(bytes)?;
+        let mut words = [0; N];
+        from_bytes(bytes, &mut words);
+        Ok(words)
+    }
+
     // The next word.
-    pub(crate) fn word(&mut self) -> Result<u32, Stop> {
-        let mut bytes = [0; 4];
-        self.file.read_exact(&mut bytes)?;
-        Ok(u32::from_le_bytes(bytes))
+    pub(crate) fn word(&mut self) -> Result<u32, Stop>
+        ensures { IfOk result (λ x. Takes (F.remaining self.old.file) (F.remaining self.new.file) (x ∷ [])) }
+    {
+        let [word] = self.array::<1>()?;
+        Ok(word)
     }
 
     // Whether nothing is left.

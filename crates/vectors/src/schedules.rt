@@ -23,8 +23,7 @@ impl Case for Schedule {
     const FILE: &'static str = "schedules.bundle";
 
     fn read<F: Read>(source: &mut Source<F>) -> Result<Self, Stop> {
-        let n = source.word()?;
-        let m = source.word()?;
+        let [n, m] = source.array::<2>()?;
         let n = within(n, MOST)?;
         let m = within(m, MOST)?;
         Ok(Schedule {

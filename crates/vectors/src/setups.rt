@@ -15,24 +15,11 @@ pub(crate) struct SetUp {
     expected: Vec<u32>,
 }
 
-fn read_settings<F: Read>(source: &mut Source<F>) -> Result<Settings, Stop> {
-    Ok(Settings::from([
-        source.word()?,
-        source.word()?,
-        source.word()?,
-        source.word()?,
-        source.word()?,
-        source.word()?,
-    ]))
-}
-
 impl Case for SetUp {
     const FILE: &'static str = "setups.words";
 
     fn read<F: Read>(source: &mut Source<F>) -> Result<Self, Stop> {
-        let n = source.word()?;
-        let settings = read_settings(source)?;
-        let number = source.word()?;
+        let [n, threads, slots, cells, records, threshold, start, number] = source.array::<8>()?;
         let n = within(n, ROOM)?;
         let given = source.filled(7, n)?;
         let expected = if number == 0 {
@@ -41,7 +28,7 @@ impl Case for SetUp {
             source.filled(7, n)?
         };
         Ok(SetUp {
-            settings,
+            settings: Settings::from([threads, slots, cells, records, threshold, start]),
             number,
             given,
             expected,

@@ -16,16 +16,6 @@ pub(crate) struct SingleStep {
     after: Vec<u32>,
 }
 
-fn read_step<F: Read>(source: &mut Source<F>) -> Result<Step, Stop> {
-    Ok(Step::from([
-        source.word()?,
-        source.word()?,
-        source.word()?,
-        source.word()?,
-        source.word()?,
-    ]))
-}
-
 // Takes a step: number and value of its reply, as the file has them. `cases` does the same: a function for both would be one of `rules` that no library calls.
 fn reply(image: &mut [u32], step: Step) -> (u32, u32) {
     let reply = machine::step(image, step);
@@ -37,11 +27,13 @@ impl Case for SingleStep {
 
     fn read<F: Read>(source: &mut Source<F>) -> Result<Self, Stop> {
         let n = within(source.word()?, ROOM)?;
+        let image = source.words(n)?;
+        let [thread, op, a, b, c, number, value] = source.array::<7>()?;
         Ok(SingleStep {
-            image: source.words(n)?,
-            step: read_step(source)?,
-            number: source.word()?,
-            value: source.word()?,
+            image,
+            step: Step::from([thread, op, a, b, c]),
+            number,
+            value,
             after: source.words(n)?,
         })
     }

@@ -33,7 +33,7 @@ accepted_ok (Err WrongLength) e = absurd (omega (arith, e))
 
 -- a step, its reply, its line and its count make a turn
 pub turned : {s : Step} {J J' : List ℕ} {r r' : Report} {n v : ℕ} (i : ℕ) (y : Result ℕ Why) → outcome (number_of y) (value_of y) J' ≡ step J s → n ≡ number_of y → v ≡ value_of y
-    → r'.text.bytes ≡ r.text.bytes ++ line_of i s.op n v → r'.tally ≡ counted_in r.tally s.op n v → Turned i s J J' r r'
+    → r'.text.now.bytes ≡ r.text.now.bytes ++ line_of i s.op n v → r'.tally ≡ counted_in r.tally s.op n v → Turned i s J J' r r'
 unfolding line line_of
 turned {s} {J} {n = n} {v = v} i y e a b h k =
     let p : n ≡ (step J s).number = a ∙ ap (λ o. o.number) e in
@@ -51,13 +51,13 @@ rest i J ss = lines i ss (outcomes J ss)
 -- after i of n steps: what is still to be written and counted makes up what all n steps give from J₀ on
 pub record Going (I J₀ : List ℕ) (n : ℕ) (J : List ℕ) (r : Report) (i : ℕ) : Type 0 where
   pub upto : i ≤ n
-  pub room : length r.text.bytes ≤ 19 + i * 44
-  pub text : r.text.bytes ++ rest i J (steps_from I i (n - i)) ≡ header ++ rest 0 J₀ (steps_from I 0 n)
+  pub room : length r.text.now.bytes ≤ 19 + i * 44
+  pub text : r.text.now.bytes ++ rest i J (steps_from I i (n - i)) ≡ header ++ rest 0 J₀ (steps_from I 0 n)
   pub accepted : r.tally.accepted + accepted (outcomes J (steps_from I i (n - i))) ≡ accepted (outcomes J₀ (steps_from I 0 n))
   pub refused : r.tally.refused + refusals_among (outcomes J (steps_from I i (n - i))) ≡ refusals_among (outcomes J₀ (steps_from I 0 n))
   pub freed : r.tally.freed + freed (steps_from I i (n - i)) (outcomes J (steps_from I i (n - i))) ≡ freed (steps_from I 0 n) (outcomes J₀ (steps_from I 0 n))
 
-pub going_none : (I J : List ℕ) (n : ℕ) {r : Report} {i : ℕ} → r.text.bytes ≡ header → r.tally ≡ nothing → i ≡ 0 → Going I J n J r i
+pub going_none : (I J : List ℕ) (n : ℕ) {r : Report} {i : ℕ} → r.text.now.bytes ≡ header → r.tally ≡ nothing → i ≡ 0 → Going I J n J r i
 unfolding ascii
 going_none I J n {r} {i} t z o =
     let e : n - 0 ≡ n = sub-zero n in
@@ -91,8 +91,8 @@ module _ {I J₀ : List ℕ} {n : ℕ} {J : List ℕ} {r : Report} {i : ℕ} (g 
       rw o
       (record {
         upto = omega arith;
-        room = omega (arith, g.room, ap length u.text, length-append r.text.bytes (line i s (step J s)), line_most i s (step J s));
-        text = rw (u.image, u.text) (append_assoc r.text.bytes (line i s (step J s)) (rest (i + 1) K ss) ∙ rw (e, w) at g.text);
+        room = omega (arith, g.room, ap length u.text, length-append r.text.now.bytes (line i s (step J s)), line_most i s (step J s));
+        text = rw (u.image, u.text) (append_assoc r.text.now.bytes (line i s (step J s)) (rest (i + 1) K ss) ∙ rw (e, w) at g.text);
         accepted = rw u.image (omega (arith, ap (λ z. z.accepted) u.sums, rw (e, accepted_next J s ss) at g.accepted));
         refused = rw u.image (omega (arith, ap (λ z. z.refused) u.sums, rw (e, refusals_next J s ss) at g.refused));
         freed = rw u.image (omega (arith, ap (λ z. z.freed) u.sums, rw (e, freed_next J s ss) at g.freed));
@@ -102,7 +102,7 @@ module _ {I J₀ : List ℕ} {n : ℕ} {J : List ℕ} {r : Report} {i : ℕ} (g 
   going_ran h =
       let e : steps_from I i (n - i) ≡ [] = steps_none I i n h in
       record {
-        text = sym (append-nil r.text.bytes) ∙ rw (e, lines_none J i) at g.text;
+        text = sym (append-nil r.text.now.bytes) ∙ rw (e, lines_none J i) at g.text;
         accepted = omega (arith, rw (e, accepted_none J) at g.accepted);
         refused = omega (arith, rw (e, refusals_none J) at g.refused);
         freed = omega (arith, rw (e, freed_none J) at g.freed);
@@ -134,12 +134,12 @@ part_long {n = n} g e = length-take-le n (replicate 8209 0) (words_fit g e)
 
 -- header, lines and total
 module _ {I J : List ℕ} {r : Report} (g : Says I) (h : Ran (given_steps I) J r) where
-  pub total_room : length r.text.bytes + 56 ≤ longest
+  pub total_room : length r.text.now.bytes + 56 ≤ longest
   unfolding ascii
   total_room =
       let k = lines_most 0 (given_steps I) (outcomes J (given_steps I)) in
       omega (arith, ap length h.text, length-append header (rest 0 J (given_steps I)), steps_long I 0 (given_count I), g.few)
 
-  pub reported : {t : List ℕ} → J ≡ fresh (given_settings I) → t ≡ r.text.bytes ++ total r.tally.accepted r.tally.refused r.tally.freed → t ≡ report (given_settings I) (given_steps I)
+  pub reported : {t : List ℕ} → J ≡ fresh (given_settings I) → t ≡ r.text.now.bytes ++ total r.tally.accepted r.tally.refused r.tally.freed → t ≡ report (given_settings I) (given_steps I)
   unfolding report
   reported j z = z ∙ rw (h.text, h.accepted, h.refused, h.freed, j) (append_assoc header _ _)

@@ -35,12 +35,12 @@ counted_in t op number value =
 -- step i was carried out on the image J, its line written, and counted
 pub record Turned (i : ℕ) (s : Step) (J J' : List ℕ) (r r' : Report) : Type 0 where
   pub image : J' ≡ (step J s).image
-  pub text : r'.text.bytes ≡ r.text.bytes ++ line i s (step J s)
+  pub text : r'.text.now.bytes ≡ r.text.now.bytes ++ line i s (step J s)
   pub sums : r'.tally ≡ counted_in r.tally s.op (step J s).number (step J s).value
 
 -- steps were carried out on the image J, the header and their lines written, and counted
 pub record Ran (ss : List Step) (J : List ℕ) (r : Report) : Type 0 where
-  pub text : r.text.bytes ≡ header ++ lines 0 ss (outcomes J ss)
+  pub text : r.text.now.bytes ≡ header ++ lines 0 ss (outcomes J ss)
   pub accepted : r.tally.accepted ≡ accepted (outcomes J ss)
   pub refused : r.tally.refused ≡ refusals_among (outcomes J ss)
   pub freed : r.tally.freed ≡ freed ss (outcomes J ss)

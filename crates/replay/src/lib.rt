@@ -18,14 +18,14 @@ use text::Text;
 #[derive(Clone, Copy, Debug, PartialEq, Eq)]
 pub struct TooShort;
 
-// What is written for any input.
+// What is written for any input, in place of what the text held.
 #[tactic(auto, unfolding(rules::specs::Program::output, rules::specs::Program::ascii))]
-fn output(input: &[u8]) -> Text
-    ensures { result.bytes ≡ program.output input.now }
+fn output(input: &[u8], text: &mut Text)
+    ensures { text.new.bytes ≡ program.output input.now }
 {
     match Schedule::of(input) {
-        Some(schedule) => run::report(schedule),
-        None => text::of_line("bad input\n"),
+        Some(schedule) => run::report(schedule, text),
+        None => text::begin(text, "bad input\n"),
     }
 }
 
@@ -47,5 +47,7 @@ fn show(text: &[u8], out: &mut [u8]) -> Result<usize, TooShort>
 pub fn replay(input: &[u8], out: &mut [u8]) -> Result<usize, TooShort>
     ensures { (result ≡ cond (leb (length (program.output input.now)) (length out.old)) (Ok (length (program.output input.now))) (Err too_short)) × (out.new ≡ program.shown (program.output input.now) out.old) }
 {
-    show(output(input).as_bytes(), out)
+    let mut text = Text::new();
+    output(input, &mut text);
+    show(text.as_bytes(), out)
 }

@@ -28,31 +28,33 @@ impl Tally {
     }
 }
 
-// The report so far: its text, and what its last line will say.
-pub struct Report {
-    pub text: Text,
+// The report so far: the text that it is written to, and what its last line will say.
+#[derive(Drop)]
+pub struct Report<'a> {
+    pub text: &'a mut Text,
     pub tally: Tally,
 }
 
-impl Report {
+impl<'a> Report<'a> {
     // The header.
     #[tactic(auto, unfolding(rules::specs::Program::ascii))]
-    pub fn new() -> Report
-        ensures { (result.text.bytes ≡ header) × (result.tally ≡ nothing) }
+    pub fn new(text: &'a mut Text) -> Report<'a>
+        ensures same_reference { result.text.ghost_name ≡ text.entry.ghost_name }
+        ensures begun { (result.text.now.bytes ≡ header) × (result.tally ≡ nothing) }
     {
+        text::begin(text, "step op code value\n");
         Report {
-            text: text::of_line("step op code value\n"),
+            text,
             tally: Tally::default(),
         }
     }
 
     // The total behind the lines.
-    pub fn end(self) -> Text
-        requires { length self.text.bytes + 56 ≤ program.longest }
-        ensures { result.bytes ≡ self.text.bytes ++ program.total self.tally.accepted self.tally.refused self.tally.freed }
+    pub fn end(self)
+        requires { length self.text.now.bytes + 56 ≤ program.longest }
+        ensures { self.exit.0.now.bytes ≡ self.entry.text.now.bytes ++ program.total self.entry.tally.accepted self.entry.tally.refused self.entry.tally.freed }
     {
-        let Report { mut text, tally } = self;
-        text::push_total(&mut text, tally.accepted, tally.refused, tally.freed);
-        text
+        let Report { text, tally } = self;
+        text::push_total(text, tally.accepted, tally.refused, tally.freed);
     }
 }

@@ -6,20 +6,20 @@ ghost use Rattle.replay.specs.Line.{line_of};
 use arrayvec::ArrayString;
 use itoa::Buffer;
 
-// A text that has room for the longest output.
+// A text that has room for the longest output. It is made once, in `replay`, and lent: a move would copy all its room.
 pub type Text = ArrayString<44075>;
 
-// A text of one line.
-pub fn of_line(line: &str) -> Text
+// Begins a text with a line: nothing of what it held stays.
+pub fn begin(text: &mut Text, line: &str)
     requires { length line.now ≤ program.longest }
-    ensures { result.bytes ≡ line.now }
+    ensures { text.new.bytes ≡ line.now }
 {
-    let mut text = Text::new();
+    text.clear();
     text.push_str(line);
-    text
 }
 
-// A number's digits, and what ends it. No `write!`: that answers a Result of which no contract says that it is Ok, and a replay can't fail.
+// A number's digits, and what ends it: a constant at each call, so that inlined it is stored, with no call that copies it. No `write!`: that answers a Result of which no contract says that it is Ok, and a replay can't fail.
+#[inline]
 #[tactic(auto, using(crate::proofs::Numbers::printed_decimal))]
 fn push_number(text: &mut Text, n: u32, end: &str)
     requires { length text.old.bytes + 10 + length end.now ≤ program.longest }

@@ -11,7 +11,8 @@ loop-i-init c = record {
   ends = search rules;
   place = search rules;
   input = search rules;
-  going = going_none _ _ _ c.new-report.ensures.0 c.new-report.ensures.1 (search rules);
+  same_reference = search rules;
+  going = going_none _ _ _ c.new-report.ensures.begun.0 c.new-report.ensures.begun.1 (search rules);
 }
 
 pub turn-requires : goal.turn-requires
@@ -32,10 +33,11 @@ loop-i-preserved c =
       ends = search rules;
       place = search rules;
       input = search rules;
-      going = going_more v.going (omega (arith, s.0.0, e, v.place)) (rw (s.1, step) at c.turn.ensures) s.2;
+      same_reference = search rules;
+      going = going_more v.going (omega (arith, s.0.0, e, v.place)) (rw (s.1, step) at c.turn.ensures.turned) s.2;
     }
 
-pub returns : goal.returns
-returns c =
+pub returns-clause-ran : goal.returns-clause-ran
+returns-clause-ran c =
     let e = ap given_count c.loop-i.invariant.input in
     going_ran c.loop-i.invariant.going (omega (arith, c.in-None.ensures.steps.0.0, e, c.loop-i.invariant.place))

@@ -2,6 +2,6 @@
 use Rattle.replay.proofs.Runs.{turned}
 use Rattle.replay.proofs.run.turn.Goals as goal
 
-pub returns : goal.returns
-returns c =
+pub returns-clause-turned : goal.returns-clause-turned
+returns-clause-turned c =
     turned c.args.i c.step-reply.result c.step-reply.ensures c.number-number.ensures c.value-value.ensures c.push_line.ensures c.count.ensures

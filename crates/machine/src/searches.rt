@@ -34,7 +34,7 @@ pub fn noted(view: &View<'_>, a: usize, p: u32) -> bool
     any(view.row(Kind::Scanned, a), p)
 }
 
-// How many words can be passed over, as none of them is 0: block after block, each read as vectors (`position` alone takes twice as long). Longer blocks leave more words to be read one by one, with fewer records than a block has words all of them.
+// How many words can be passed over, as none of them is 0: block after block, each read as vectors (`position` reads word by word, and takes longer). Longer blocks leave more words to be read one by one: all of them, where there are fewer records than a block has words.
 fn without_zero(words: &[u32]) -> usize
     ensures { (result ≤ length words.now) × ((k : ℕ) → k < result → slice_index words.now k ≢ 0) }
 {

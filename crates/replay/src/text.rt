@@ -1,4 +1,4 @@
-// The output's text: each function adds its bytes at the end.
+// The output's text: `begin` starts it, and each other function adds its bytes at the end.
 ghost use Rattle.std.specs.Prelude.{◌≡◌, ◌++◌, ◌+◌, ◌≤◌, length};
 ghost use Rattle.rules.specs.Program as program;
 ghost use Rattle.replay.specs.Line.{line_of};
@@ -18,7 +18,7 @@ pub fn begin(text: &mut Text, line: &str)
     text.push_str(line);
 }
 
-// A number's digits, and what ends it: a constant at each call, so that inlined it is stored, with no call that copies it. No `write!`: that answers a Result of which no contract says that it is Ok, and a replay can't fail.
+// A number's digits, and what ends it. Inlined, as the end is a constant at each call: it is stored then, where a call would copy it. No `write!`: that answers a Result of which no contract says that it is Ok, and a replay can't fail.
 #[inline]
 #[tactic(auto, using(crate::proofs::Numbers::printed_decimal))]
 fn push_number(text: &mut Text, n: u32, end: &str)

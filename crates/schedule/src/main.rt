@@ -1,4 +1,4 @@
-// The schedule program: a schedule on standard input, its replies on standard output. It rests on two functions of the C library, read and write, and has no heap.
+// The schedule program: a schedule on standard input, its replies on standard output. Of the C library it rests on read and write, and on what names an error where one of them fails; it has no heap.
 #![tactic(auto)]
 
 ghost use Rattle.std.specs.Prelude.{◌≤◌, length, IfOk};

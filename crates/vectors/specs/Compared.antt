@@ -7,7 +7,7 @@ use Rattle.rules.specs.Program.{word}
 unfoldable pub Words : List ℕ → List ℕ → ℕ → Type 0
 Words bs ws n = (i : ℕ) → i < n → get_or ws i 0 ≡ word bs i
 
--- the words ws are read: what is known to be left begins with the bytes that hold them, and is what follows afterwards
+-- the words ws are read: where it is known what is left, it begins with the bytes that hold them, and what follows these is left afterwards; else nothing is said
 abbrev pub Takes : Option (List ℕ) → Option (List ℕ) → List ℕ → Type 0
 Takes old new ws = (bs : List ℕ) × Consumes old new bs × (length bs ≡ length ws * 4) × Words bs ws (length ws)
 
